@@ -1,57 +1,154 @@
-"""States from Python, over the library made of the one C file: a receiver that is saved in the middle of a pass, and loaded, finds of the
-rest what one finds that was not; so does a sender. What is no state is refused. Its last line is 'N passed, M failed'."""
+#!/usr/bin/env python3
+"""States from Python: streams that are cut at random by save and load go on as uncut ones, receivers and, by a library made of the one C file,
+senders; states are loaded into new and open handles and pickled; what is no state is refused; those of earlier releases (library/tests/states)
+go on; and Space Packets of many APIDs in any pieces. Its last line is 'N passed, M failed'."""
 
+import os
+import pickle
 import random
 import sys
+import zlib
 
-from pocket import NoState, Receiver, Sender
+from pocket import BitsOutOfRange, Kind, NoState, PocketError, Receiver, Receivers, Sender, StoreError, packed, SpacePacket
 
-BITS, PACKETS, LOST = 100, 60, {7, 8, 31, 45}
-
-
-def contents(draw):
-    """Packets of 100 bits, of which few places move."""
-    own = draw.getrandbits(BITS)
-    for _ in range(PACKETS):
-        own ^= 1 << draw.randrange(8)
-        yield (own << -BITS % 8).to_bytes((BITS + 7) // 8, "big")
+STREAMS, STORED = 60, os.path.join(os.path.dirname(os.path.abspath(__file__)), "states")
 
 
-def checks():
-    """All that is tried: each with its name, and whether it is so."""
-    inputs = list(contents(random.Random(5)))
-    with Sender(BITS) as sender:
-        first = [sender.send(it, robustness=2) for it in inputs[:PACKETS // 2]]
-        state = sender.save()
-        rest = [sender.send(it, robustness=2) for it in inputs[PACKETS // 2:]]
-    with Sender.load(state) as other:
-        yield "a sender goes on", [other.send(it, robustness=2) for it in inputs[PACKETS // 2:]] == rest
-    arrived = [(number, one.data) for number, one in enumerate(first + rest) if number not in LOST]
-    with Receiver(BITS) as receiver:
-        for number, data in arrived[:len(arrived) // 2]:
-            receiver.receive(number, data)
-        state = receiver.save()
-        found = [receiver.receive(number, data) for number, data in arrived[len(arrived) // 2:]]
-        counts = receiver.counts()
-    with Receiver.load(state) as other:
-        yield "a receiver goes on", [other.receive(number, data) for number, data in arrived[len(arrived) // 2:]] == found
-        yield "it has counted all", other.counts() == counts
-        yield "all that arrived is written", counts.written == len(arrived) and found[-1].content == inputs[-1]
-    for name, bad in (("cut", state[:-1]), ("damaged", state[:40] + bytes([state[40] ^ 1]) + state[41:]), ("empty", b"")):
-        try:
-            Receiver.load(bad)
-            yield f"a {name} state is refused", False
-        except NoState:
-            yield f"a {name} state is refused", True
+def senders_are_saved():
+    """Whether the library has states of senders."""
     try:
-        Sender.load(state)
-        yield "a receiver's state is no sender's", False
-    except NoState:
-        yield "a receiver's state is no sender's", True
+        return bool(Sender(8).save())
+    except PocketError:
+        return False
+
+
+def contents(draw, bits, count):
+    """Packets of which few places move."""
+    own = draw.getrandbits(bits)
+    for _ in range(count):
+        own ^= 1 << draw.randrange(min(bits, 8))
+        own = draw.getrandbits(bits) if draw.random() < 0.05 else own
+        yield (own << -bits % 8).to_bytes((bits + 7) // 8, "big")
+
+
+def again(draw, held):
+    """A handle that goes on from the state of one: a new one, an open one, or a pickled one."""
+    state = held.save()
+    way = draw.randrange(3)
+    if way == 0:
+        return type(held).load(state)
+    if way == 1:
+        other = type(held)(held.bits)
+        other.load(state)
+        return other
+    return pickle.loads(pickle.dumps(held))
+
+
+def cut_streams():
+    """Whether streams that are cut anywhere are those that are not."""
+    draw, wrong, saves = random.Random(5), [], senders_are_saved()
+    for stream in range(STREAMS):
+        bits, robustness = draw.choice([1, 7, 8, 13, 64, 100, 1024]), draw.randrange(8)
+        sender, whole = Sender(bits), Sender(bits)
+        receiver, other = Receiver(bits), Receiver(bits)
+        for number, content in enumerate(contents(draw, bits, 60)):
+            flags = {name: number > 0 and draw.random() < 0.1 for name in ("new_mask", "send_mask", "whole")}
+            sent = sender.send(content, robustness, **flags)
+            wrong += [stream] * (sent != whole.send(content, robustness, **flags))
+            if draw.random() < 0.7:
+                found = receiver.receive(number, sent.data)
+                wrong += [stream] * (found != other.receive(number, sent.data) or found.kind == Kind.WRITTEN and found.content != content)
+            sender = again(draw, sender) if saves and draw.random() < 0.1 else sender
+            receiver = again(draw, receiver) if draw.random() < 0.1 else receiver
+        wrong += [stream] * (receiver.counts() != other.counts() or receiver.save() != other.save())
+        wrong += [stream] * (receiver.next_number != receiver.counts().written + receiver.counts().listed)
+    yield f"{STREAMS} streams that are cut, wrong are {wrong[:5]}", not wrong
+
+
+def refused():
+    """Whether what is no state is refused, whatever byte it is, and changes nothing."""
+    with Sender(100) as sender, Receiver(100) as receiver:
+        for number, content in enumerate(contents(random.Random(6), 100, 20)):
+            receiver.receive(number, sender.send(content, 2).data)
+        for held in (sender, receiver) if senders_are_saved() else (receiver,):
+            state = held.save()
+            yield "its sum is zlib's", zlib.crc32(state[:-4]) == int.from_bytes(state[-4:], "big")
+            bad = [state[:place] + bytes([state[place] ^ 1 << place % 8]) + state[place + 1:] for place in range(len(state))]
+            bad += [state[:cut] for cut in range(len(state))] + [state + b"\0"]
+            bad += [state[:6] + bits.to_bytes(4, "big") + state[10:] for bits in (0, 99, 49153, 2**32 - 1)]
+            for one in bad:
+                for load in (type(held).load, held.load):
+                    try:
+                        load(one)
+                        yield f"bytes that are no state of a {type(held).__name__}: {one[:12].hex()}.. of {len(one)}", False
+                    except NoState:
+                        pass
+            yield f"a {type(held).__name__} after {len(bad)} refusals", held.save() == state
+
+
+def stored():
+    """Whether the states of earlier releases are read, and go on as the streams from which they were saved."""
+    names = sorted(os.listdir(STORED))
+    for name in names:
+        bits = int(name.removeprefix("receiver-").removesuffix(".state"))
+        sender, receiver = Sender(bits), Receiver(bits)
+        for number, content in enumerate(contents(random.Random(bits), bits, 40)):
+            if number == 30:
+                with open(os.path.join(STORED, name), "rb") as file:
+                    receiver.load(file.read())
+            sent = sender.send(content, 2, new_mask=number % 10 == 9)
+            if number >= 30 and number % 7 != 3:
+                found = receiver.receive(number, sent.data)
+                yield f"{name}: packet {number}", (found.number, found.content) == (number, content)
+        yield f"{name}: its numbers", (receiver.next_number, receiver.counts().packets) == (40, 34)
+    yield "states of four numbers of bits are stored", len(names) == 4
+
+
+def pieces():
+    """Whether Space Packets of many APIDs in any pieces are judged as by receivers of their own, and others are counted."""
+    draw, bits = random.Random(7), {100: 64, 101: 13, 2046: 1}
+    senders = {apid: Sender(number) for apid, number in bits.items()}
+    counts, wanted, stream, passed = dict.fromkeys(bits, 0), [], b"", {"idle": 0, "unknown": 0, "misshapen": 0}
+    own = {apid: Receiver(number) for apid, number in bits.items()}
+    for _ in range(300):
+        apid = draw.choice(list(bits))
+        data = senders[apid].send(draw.randbytes((bits[apid] + 7) // 8 - 1) + bytes([draw.randrange(256) & 0xFF00 >> (bits[apid] % 8 or 8) & 0xFF]), 2).data
+        packet = packed(SpacePacket(apid, counts[apid] % 16384, data))
+        counts[apid] += 1
+        if draw.random() < 0.9:
+            wanted.append((apid, own[apid].receive(counts[apid] - 1, data)))
+            stream += packet
+        for name, header in (("idle", b"\x07\xff\xc0\x00"), ("unknown", b"\x00\x05\xc0\x00"), ("misshapen", b"\x08\x64\xc0\x00"), ("misshapen", b"\x00\x64\x40\x00")):
+            if draw.random() < 0.05:
+                stream += header + b"\x00\x01ab"
+                passed[name] += 1
+    found = []
+    with Receivers(bits) as receivers:
+        rest = stream
+        while rest:
+            size = draw.randrange(1, 40)
+            found += receivers.feed(rest[:size])
+            rest = rest[size:]
+        yield "Space Packets in any pieces", found == wanted and receivers.bytes == len(stream) and receivers.left == 0
+        yield "what is passed over", {name: getattr(receivers, name) for name in passed} == passed
+        yield "the numbers of each", {apid: receivers[apid].counts() for apid in receivers} == {apid: own[apid].counts() for apid in own}
+        list(receivers.feed(b"\x00\x64\xc0"))
+        yield "a packet that isn't whole", receivers.left == 3
+        try:
+            list(receivers.feed(b"\x00\x00\x00\xff\x20\x00\x00\x00\x00\x00\x01"))
+            yield "another version is refused", False
+        except StoreError as error:
+            yield "another version is refused with its place", str(error) == f"the packet at byte {len(stream) + 7} is of another version"
+    for wrong, kind in (({2047: 8}, StoreError), ({-1: 8}, StoreError), ({1: 0}, BitsOutOfRange)):
+        try:
+            Receivers(wrong)
+            yield f"receivers of {wrong}", False
+        except kind:
+            yield f"receivers of {wrong}", True
 
 
 def main():
-    results = list(checks())
+    results = [*cut_streams(), *refused(), *stored(), *pieces()]
     for name, is_so in results:
         if not is_so:
             print(f"states: {name}: it is not so")

@@ -18,12 +18,13 @@ or the one that was installed with the module, or that the system finds. It take
 """
 
 from .calls import Arrival, Counts, Desk, Kind, Receiver, Sender, Sent, run
-from .errors import (BitsOutOfRange, Broken, Closed, CountOutOfRange, NoState, NotKept, NotText, OutOfMemory, PocketError, Refused,
-                     RobustnessOutOfRange, SpareBitSet, StoreError, TooLong, TooManyPackets, TooManyWords, WrongLength)
+from .errors import (BitsOutOfRange, Broken, Busy, Closed, CountOutOfRange, Forked, NoState, NotKept, NotText, OutOfMemory, PocketError,
+                     Refused, RobustnessOutOfRange, SpareBitSet, StoreError, TooLong, TooManyPackets, TooManyWords, WrongLength)
 from .packets import SpacePacket, packed, space_packets
+from .receivers import Receivers
 
-__all__ = ["Arrival", "BitsOutOfRange", "Broken", "Closed", "Counts", "CountOutOfRange", "Desk", "Kind", "NoState", "NotKept",
-           "NotText", "OutOfMemory", "PocketError", "Receiver", "Refused", "RobustnessOutOfRange", "Sender", "Sent", "SpareBitSet", "SpacePacket",
+__all__ = ["Arrival", "BitsOutOfRange", "Broken", "Busy", "Closed", "Counts", "CountOutOfRange", "Desk", "Forked", "Kind", "NoState", "NotKept",
+           "NotText", "OutOfMemory", "PocketError", "Receiver", "Receivers", "Refused", "RobustnessOutOfRange", "Sender", "Sent", "SpareBitSet", "SpacePacket",
            "StoreError", "TooLong", "TooManyPackets", "TooManyWords", "WrongLength", "packed", "run", "space_packets"]
 
 __version__ = "1.1.0"

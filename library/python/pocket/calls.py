@@ -1,16 +1,16 @@
-"""Senders, receivers and desks in memory, each over a handle of the library. One call at a time is made with a handle."""
+"""Senders, receivers and desks in memory, each over a handle of the library."""
 
 from __future__ import annotations
 
 import ctypes
 import enum
 import operator
-import threading
 from dataclasses import dataclass
-from typing import Mapping, Optional, Type, TypeVar, Union
+from typing import Any, Callable, Mapping, Optional, Type, TypeVar, Union, overload
 
-from .errors import BitsOutOfRange, CountOutOfRange, NotText, PocketError, Refused, RobustnessOutOfRange, TooManyWords, done
-from .library import Finding, Handle, Tally, library, states
+from .errors import BitsOutOfRange, CountOutOfRange, NoState, NotText, PocketError, Refused, RobustnessOutOfRange, TooManyWords, done
+from .held import Held, alone
+from .library import Finding, Tally, library
 
 MOST_BITS = 49152
 
@@ -94,200 +94,259 @@ class Counts:
     listed: int
 
 
-_Own = TypeVar("_Own", bound="_Held")
-
-
-class _Held:
-    """A handle that is closed at the end of a `with`, or with its object. One call at a time is made with it: another thread waits."""
-
-    def __init__(self) -> None:
-        if hasattr(self, "_handle"):
-            raise PocketError("it was opened already")
-        self._close = library.pocket_close
-        self._lock = threading.RLock()
-        self._handle = Handle()
-
-    def close(self) -> None:
-        """Gives back its memory. A second time does nothing."""
-        with self._lock:
-            self._close(self._handle)
-
-    def __enter__(self: _Own) -> _Own:
-        return self
-
-    def __exit__(self, *_: object) -> None:
-        self.close()
-
-    def __del__(self) -> None:
-        if hasattr(self, "_handle"):
-            self._close(self._handle)
-
-
 _State = TypeVar("_State", bound="_Kept")
 
 
-class _Kept(_Held):
-    """What has a state, of vectors of so many bits."""
+class _Load:
+    """`load` of a class gives a new sender or receiver with a state, `load` of an open one puts a state of as many bits in place of its own."""
+
+    @overload
+    def __get__(self, held: None, kind: Type[_State]) -> Callable[[Data], _State]: ...
+
+    @overload
+    def __get__(self, held: _State, kind: Type[_State]) -> Callable[[Data], None]: ...
+
+    def __get__(self, held: Any, kind: Any) -> Any:
+        return kind._loaded if held is None else held._load
+
+
+class _Kept(Held):
+    """What has a state, of vectors of so many bits. It is pickled by its state."""
+
+    _kind = 0
+    load = _Load()
 
     def __init__(self, bits: int) -> None:
         super().__init__()
 
-    @property
-    def bits(self) -> int:
-        """The number of bits of its inputs or contents."""
+    def _bits(self) -> int:
         bits = ctypes.c_uint32()
-        with self._lock:
-            done(library.pocket_bits(self._handle, bits))
+        done(library.pocket_bits(self._handle, bits))
         return bits.value
 
+    @property
+    @alone
+    def bits(self) -> int:
+        """The number of bits of its inputs or contents."""
+        return self._bits()
+
+    @alone
     def save(self) -> bytes:
-        """Its state, from which `load` goes on, on any processor. Only the library made of the one C file has this."""
-        size = ctypes.c_size_t()
-        with self._lock:
-            done(states().pocket_state_size(self._handle, size))
-            state = ctypes.create_string_buffer(size.value)
-            done(states().pocket_save(self._handle, state, len(state), size))
-        return state.raw
+        """Its state, from which `load` goes on: a receiver's on any processor and with any later release, a sender's, which only the library
+        made of the one C file has, with the same file."""
+        most, length = library.pocket_state_bytes(self._bits(), self._kind), ctypes.c_size_t()
+        if not most:
+            raise PocketError("only the library made of the one C file has states of senders")
+        state = ctypes.create_string_buffer(most)
+        done(library.pocket_save(self._handle, state, most, length))
+        return ctypes.string_at(state, length.value)
+
+    @alone
+    def _load(self, state: Data) -> None:
+        own = _taken(state)
+        done(library.pocket_load(self._handle, own, len(own)))
 
     @classmethod
-    def load(cls: Type[_State], state: Data) -> _State:
-        """A sender or a receiver that goes on from the state of one. Only the library made of the one C file has this."""
+    def _loaded(cls: Type[_State], state: Data) -> _State:
         own = _taken(state)
-        held = cls(int.from_bytes(own[8:12], "big") if len(own) > 32 else 1)
-        done(states().pocket_load(held._handle, own, len(own)))
+        bits = int.from_bytes(own[6:10], "big")
+        if not 1 <= bits <= MOST_BITS:
+            raise NoState("it is no state")
+        held = cls(bits)
+        held._load(own)
         return held
+
+    def __reduce_ex__(self, _: Any) -> Any:
+        return type(self)._loaded, (self.save(),)
+
+
+class _Packet:
+    """Where a call that makes a packet puts it: no byte before it is made."""
+
+    def __init__(self, most: int) -> None:
+        self.data, self.length, self.level = ctypes.create_string_buffer(most), ctypes.c_size_t(), ctypes.c_uint8()
+
+    @property
+    def is_made(self) -> bool:
+        return self.length.value > 0
+
+    def made(self) -> Sent:
+        return Sent(ctypes.string_at(self.data, self.length.value), self.level.value)
 
 
 class Sender(_Kept):
     """Makes the packet of each input of `bits` bits, 1 to 49,152. The first mask has ceil(bits / 8) bytes, or is zeros."""
 
+    _kind = 1
+
     def __init__(self, bits: int, mask: Data = b"") -> None:
         super().__init__(bits)
         own = _taken(mask)
         done(library.pocket_sender_open(self._handle, _bits(bits), own, len(own)))
-        self._data = ctypes.create_string_buffer((10 * bits + 50) // 8)
-        self._length, self._level = ctypes.c_size_t(), ctypes.c_uint8()
+        self._most = (10 * bits + 50) // 8
+        self._made = self._asked = _Packet(1)
 
+    @alone
     def reset(self, mask: Data = b"") -> None:
         """Begins a new stream, as a new sender of as many bits with this first mask does, in the memory that it has."""
         own = _taken(mask)
-        with self._lock:
-            done(library.pocket_sender_reset(self._handle, own, len(own)))
+        done(library.pocket_sender_reset(self._handle, own, len(own)))
 
+    @alone
     def send(self, content: Data, robustness: int = 0, *, new_mask: bool = False, send_mask: bool = False, whole: bool = False) -> Sent:
         """The packet of the next input, of ceil(bits / 8) bytes, with a required robustness of 0 to 7 packets."""
         own = _taken(content)
         robustness = _in_range(robustness, 255, RobustnessOutOfRange, "the required robustness is above 7")
-        with self._lock:
-            done(library.pocket_send(self._handle, own, len(own), bool(new_mask), bool(send_mask), bool(whole), robustness, self._data,
-                                       len(self._data), self._length, self._level))
-            return Sent(ctypes.string_at(self._data, self._length.value), self._level.value)
+        packet = _Packet(self._most)
+        if self._asked.is_made:
+            self._made = self._asked
+        self._asked = packet
+        done(library.pocket_send(self._handle, own, len(own), bool(new_mask), bool(send_mask), bool(whole), robustness, packet.data,
+                                 len(packet.data), packet.length, packet.level))
+        return packet.made()
+
+    @alone
+    def last(self) -> Optional[Sent]:
+        """The latest packet that it made, and None before the first. If a call of `send` ended with a KeyboardInterrupt, `sent` tells whether
+        its packet was made, and this is it then."""
+        latest = self._asked if self._asked.is_made else self._made
+        return latest.made() if latest.is_made else None
 
     @property
+    @alone
     def sent(self) -> int:
         """How many packets it made: the number of its next one, whose sequence count is this number modulo 16,384."""
         sent = ctypes.c_uint64()
-        with self._lock:
-            done(library.pocket_sent(self._handle, sent))
+        done(library.pocket_sent(self._handle, sent))
         return sent.value
+
+
+class _Finding:
+    """Where a call that judges an arrival puts what it finds: no kind before it is found."""
+
+    def __init__(self, size: int) -> None:
+        self.found, self.content = Finding(kind=len(Kind)), ctypes.create_string_buffer(size)
+
+    @property
+    def is_made(self) -> bool:
+        return bool(self.found.kind != len(Kind))
+
+    def made(self) -> Arrival:
+        found, kind = self.found, Kind(self.found.kind)
+        content = self.content.raw if kind == Kind.WRITTEN else None
+        return Arrival(found.number, kind, found.value, range(found.first_lost, found.first_lost + found.lost), found.mask_alone, content)
 
 
 class Receiver(_Kept):
     """Judges the packets of a sender of `bits` bits, 1 to 49,152, as they arrive, whichever were lost."""
 
+    _kind = 2
+
     def __init__(self, bits: int) -> None:
         super().__init__(bits)
         done(library.pocket_receiver_open(self._handle, _bits(bits)))
-        self._content = ctypes.create_string_buffer((bits + 7) // 8)
-        self._finding, self._tally = Finding(), Tally()
+        self._size = (bits + 7) // 8
+        self._judged = self._asked = _Finding(0)
 
+    @alone
     def reset(self) -> None:
         """Begins a new stream, as a new receiver of as many bits does, in the memory that it has."""
-        with self._lock:
-            done(library.pocket_receiver_reset(self._handle))
+        done(library.pocket_receiver_reset(self._handle))
 
+    @alone
     def receive(self, count: int, data: Data) -> Arrival:
         """What is found of the next packet that arrived, by its sequence count, 0 to 16,383, and at most 65,536 bytes of data."""
-        found, own = self._finding, _taken(data)
+        own = _taken(data)
         count = _in_range(count, 65535, CountOutOfRange, "the sequence count is above 16383")
-        with self._lock:
-            done(library.pocket_receive(self._handle, count, own, len(own), self._content, len(self._content), found))
-            kind = Kind(found.kind)
-            content = self._content.raw if kind == Kind.WRITTEN else None
-            lost = range(found.first_lost, found.first_lost + found.lost)
-            return Arrival(found.number, kind, found.value, lost, found.mask_alone, content)
+        finding = _Finding(self._size)
+        if self._asked.is_made:
+            self._judged = self._asked
+        self._asked = finding
+        done(library.pocket_receive(self._handle, count, own, len(own), finding.content, self._size, finding.found))
+        return finding.made()
 
+    @alone
+    def last(self) -> Optional[Arrival]:
+        """What was found of the latest arrival, and None before the first. If a call of `receive` ended with a KeyboardInterrupt, `counts`
+        tells whether its packet was judged, and this is what was found of it then."""
+        latest = self._asked if self._asked.is_made else self._judged
+        return latest.made() if latest.is_made else None
+
+    @alone
     def counts(self) -> Counts:
         """The numbers of the arrivals so far."""
-        with self._lock:
-            done(library.pocket_counts(self._handle, self._tally))
-            return Counts(self._tally.packets, self._tally.written, self._tally.repeats, self._tally.listed)
+        tally = Tally()
+        done(library.pocket_counts(self._handle, tally))
+        return Counts(tally.packets, tally.written, tally.repeats, tally.listed)
+
+    @property
+    def next_number(self) -> int:
+        """The number of the next packet, if none is lost before it: as many are written or listed."""
+        counts = self.counts()
+        return counts.written + counts.listed
 
 
-class Desk(_Held):
+class Desk(Held):
     """A desk in memory: bytes that are kept under names, which the commands of the program read and write."""
 
     def __init__(self) -> None:
         super().__init__()
         done(library.pocket_desk_open(self._handle))
-        self._text = ctypes.create_string_buffer(128)
-        self._length, self._exit = ctypes.c_size_t(), ctypes.c_uint8()
 
+    @alone
     def put(self, name: str, content: Data) -> None:
         """Keeps bytes under a name, in place of what was kept under it."""
         coded, own = _utf8(name), _taken(content)
-        with self._lock:
-            done(library.pocket_put(self._handle, coded, len(coded), own, len(own)))
+        done(library.pocket_put(self._handle, coded, len(coded), own, len(own)))
 
+    @alone
     def run(self, *words: str) -> None:
         """Runs the command of the words: the verb, and its words in any order. A command that is refused raises `Refused`. If there is no
         memory for the words, the desk is closed."""
         coded = [_utf8(word) for word in words]
         if len(coded) > 1000:
             raise TooManyWords("the command has too many words")
-        with self._lock:
-            for word in coded:
-                status = library.pocket_word(self._handle, word, len(word))
-                if status:
-                    self.close()
-                done(status)
-            done(library.pocket_run(self._handle, self._text, len(self._text), self._length, self._exit))
-            if self._exit.value:
-                raise Refused(ctypes.string_at(self._text, self._length.value).decode(), self._exit.value)
-
-    def get(self, name: str) -> bytes:
-        """What is kept under a name: no byte if it was never put or written."""
-        coded, length, found = _utf8(name), self._length, self._text
-        with self._lock:
-            status = library.pocket_get(self._handle, coded, len(coded), found, len(found), length)
-            if status == 11:
-                found = ctypes.create_string_buffer(length.value)
-                status = library.pocket_get(self._handle, coded, len(coded), found, len(found), length)
+        for word in coded:
+            status = library.pocket_word(self._handle, word, len(word))
+            if status:
+                self._close(self._handle)
             done(status)
-            return ctypes.string_at(found, length.value)
+        text, length, exit_number = ctypes.create_string_buffer(128), ctypes.c_size_t(), ctypes.c_uint8()
+        done(library.pocket_run(self._handle, text, len(text), length, exit_number))
+        if exit_number.value:
+            raise Refused(ctypes.string_at(text, length.value).decode(), exit_number.value)
 
+    @alone
+    def get(self, name: str) -> bytes:
+        """What is kept under a name: no byte if nothing is kept under it."""
+        coded = _utf8(name)
+        found = self._found(library.pocket_get, coded, len(coded))
+        assert found is not None
+        return found
+
+    @alone
     def remove(self, name: str) -> None:
         """Removes what is kept under a name, and gives its memory back. Raises `NotKept` if nothing is kept under it."""
         coded = _utf8(name)
-        with self._lock:
-            done(library.pocket_remove(self._handle, coded, len(coded)))
+        done(library.pocket_remove(self._handle, coded, len(coded)))
 
+    @alone
     def names(self) -> list[str]:
         """The names under which something is kept, in the order of their bytes."""
         names: list[str] = []
-        with self._lock:
-            name = self._name_from(b"")
-            while name is not None:
-                names.append(name.decode())
-                name = self._name_from(name + b"\0")
+        name = self._found(library.pocket_name_from, b"", 0)
+        while name is not None:
+            names.append(name.decode())
+            name = self._found(library.pocket_name_from, name + b"\0", len(name) + 1)
         return names
 
-    def _name_from(self, start: bytes) -> Optional[bytes]:
-        length, found = self._length, self._text
-        status = library.pocket_name_from(self._handle, start, len(start), found, len(found), length)
-        if status == 11:
-            found = ctypes.create_string_buffer(length.value)
-            status = library.pocket_name_from(self._handle, start, len(start), found, len(found), length)
+    def _found(self, call: Any, text: bytes, size: int) -> Optional[bytes]:
+        """The bytes that a call gives, in a room that is long enough: None if no such name is kept."""
+        length, room, status = ctypes.c_size_t(128), 0, 11
+        while status == 11 and room != length.value:
+            room = length.value
+            found = ctypes.create_string_buffer(room)
+            status = call(self._handle, text, size, found, room, length)
         if status == 17:
             return None
         done(status)

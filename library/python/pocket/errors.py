@@ -15,6 +15,14 @@ class Closed(PocketError, ValueError):
     """The sender, the receiver or the desk is closed."""
 
 
+class Busy(PocketError):
+    """A call within a call of the same sender, receiver or desk: by a signal handler or a finalizer that came between."""
+
+
+class Forked(PocketError):
+    """The sender, the receiver or the desk was opened by another process, of which this one is a copy: each opens its own."""
+
+
 class BitsOutOfRange(PocketError, ValueError):
     """The number of bits is not from 1 to 49,152."""
 
@@ -59,9 +67,12 @@ class Refused(PocketError):
     """A command at a desk that was refused, with the refusal's text. The names of its outputs keep what they had, unless writing failed."""
 
     def __init__(self, text: str, exit_number: int) -> None:
-        super().__init__(text)
+        super().__init__(text, exit_number)
         #: The exit number of the program, 1 to 5.
         self.exit_number = exit_number
+
+    def __str__(self) -> str:
+        return str(self.args[0])
 
 
 class NoState(PocketError, ValueError):

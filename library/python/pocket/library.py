@@ -8,8 +8,6 @@ import ctypes.util
 import os
 from typing import Any
 
-from .errors import PocketError
-
 
 class Handle(ctypes.Structure):
     _fields_ = [("at", ctypes.c_void_p), ("state", ctypes.c_size_t)]
@@ -44,10 +42,7 @@ _CALLS = {
     "pocket_remove": [_HANDLE, _BYTES, _SIZE],
     "pocket_name_from": [_HANDLE, _BYTES, _SIZE, ctypes.c_void_p, _SIZE, ctypes.POINTER(_SIZE)],
     "pocket_close": [_HANDLE],
-}
-# What the library made of the one C file has (docs/CALLING.md), which has no desk.
-_STATE_CALLS = {
-    "pocket_state_size": [_HANDLE, ctypes.POINTER(_SIZE)],
+    "pocket_state_bytes": [ctypes.c_uint32, ctypes.c_uint32],
     "pocket_save": [_HANDLE, ctypes.c_void_p, _SIZE, ctypes.POINTER(_SIZE)],
     "pocket_load": [_HANDLE, _BYTES, _SIZE],
 }
@@ -64,10 +59,10 @@ class Library:
 
     def __getattr__(self, call: str) -> Any:
         loaded = ctypes.CDLL(os.environ.get("POCKET_LIBRARY") or _installed())
-        for own, types in {**_CALLS, **_STATE_CALLS}.items():
+        for own, types in _CALLS.items():
             if hasattr(loaded, own):
                 function = getattr(loaded, own)
-                function.argtypes, function.restype = types, ctypes.c_uint32
+                function.argtypes, function.restype = types, _SIZE if own == "pocket_state_bytes" else ctypes.c_uint32
                 setattr(self, own, function)
         if call not in self.__dict__:
             raise AttributeError(call)
@@ -75,10 +70,3 @@ class Library:
 
 
 library = Library()
-
-
-def states() -> Library:
-    """The library, if it has states."""
-    if not hasattr(library, "pocket_save"):
-        raise PocketError("only the library made of the one C file has states")
-    return library
