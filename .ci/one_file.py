@@ -3,15 +3,17 @@
 
 At the top, after the gate's proofs: .ci/one_file.py. `make dist` makes the files anew; if dist/ is committed, it has to be the same. Then
 library/tests/driver.c runs over pocket.c, as it runs over the gate's library (crates/pocket_c/out): on this processor, on others under
-qemu-user, and on a Cortex-M3 without an operating system, its memory static and no heap in use. What is printed has to be the same; states
-that are saved on one processor are those of all others, and go on there. library/tests/one_file.c tries what the file alone has. Two builds
-in which the order of bytes is wrong with the big end first have to fail. What needs a package that can't be had from Debian (as root) is
+qemu-user, and on a Cortex-M3, LEON3 and a RISC-V of 32 bits without an operating system, with static memory. What is printed has to be the same; states
+that are saved on one processor are those of all others, a receiver's also those of the library, and go on there. library/tests/one_file.c tries what the file alone has, and upset.c
+what it does if a bit of its memory is turned. Two builds
+in which the order of bytes is wrong with the big end first have to fail. What needs a package that isn't there (.ci/needs.py) is
 skipped, by name. Its last line is 'N passed, M failed, K skipped'.
 """
 
 import concurrent.futures
 import os
 import random
+import re
 import shutil
 import subprocess
 import sys
@@ -28,8 +30,14 @@ MADE = ["pocket.c", "pocket.h", "pocket-program.c", "pocket.html"]
 STRICT = "-std=c99 -Wall -Wextra -pedantic -Werror".split()
 DRIVER = f"{TOP}/library/tests/driver.c"
 OWN = f"{TOP}/library/tests/one_file.c"
-BOARD = f"{TOP}/library/examples/cortex-m"
+BOARD, LEON3, RISCV32 = (f"{TOP}/library/examples/{name}" for name in ("cortex-m", "leon3", "riscv32"))
 QEMU_BOARD = "qemu-system-arm -M mps2-an385 -display none -serial none -monitor none -semihosting-config enable=on,target=native -kernel".split()
+# A machine without an operating system: QEMU's loader puts what the driver reads into its memory (library/examples/leon3/board.h).
+LOADER = "-display none -monitor none -serial stdio -device loader,file=INPUT,addr=0x{}000000,force-raw=on -device loader,addr=0x{}FFFFFC,data=LENGTH,data-len=4 -kernel"
+QEMU_LEON3 = f"qemu-system-sparc -M leon3_generic {LOADER.format(42, 41)}".split()
+QEMU_RISCV32 = f"qemu-system-riscv32 -M virt -bios none {LOADER.format(82, 81)}".split()
+MACHINE = ["-Os", "-ffreestanding", "-nostdlib", "-DPOCKET_NO_HEAP", "-DPOCKET_NO_LIBC", "-DPOCKET_BARE", "-DDRIVER_ROOM=(1<<17)", "-I", LEON3,
+           "-I", f"{TOP}/library/tests", f"{LEON3}/helpers.c", f"{TOP}/library/tests/bare.c"]
 SANITIZERS = ["-fsanitize=address,undefined", "-fno-sanitize-recover=all"]
 VALGRIND = ["valgrind", "-q", "--error-exitcode=9", "--leak-check=full"]
 # What the driver is compiled by, with which flags, and what runs it.
@@ -37,6 +45,7 @@ TARGETS = {
     "x86-64, gcc": ("gcc", ["-O2"], []),
     "x86-64, clang": ("clang", ["-O1"], []),
     "x86-64, unchecked": ("gcc", ["-O1", "-DPOCKET_UNCHECKED"], []),
+    "x86-64, freestanding": ("gcc", ["-O2", "-ffreestanding", "-DPOCKET_NO_LIBC"], []),
     "x86-64, the sanitizers": ("gcc", ["-O1", "-g", *SANITIZERS], []),
     "i386": ("i686-linux-gnu-gcc", ["-Os", "-static"], ["qemu-i386"]),
     "armhf": ("arm-linux-gnueabihf-gcc", ["-Os", "-static"], ["qemu-arm"]),
@@ -49,17 +58,27 @@ TARGETS = {
     "Cortex-M3": ("arm-none-eabi-gcc", ["-Os", "-Wno-format", "-mcpu=cortex-m3", "-mthumb", "--specs=rdimon.specs", "-nostartfiles",
                                         "-DDRIVER_ROOM=(1<<17)", "-DPOCKET_NO_HEAP", "-Wl,--wrap=main", "-T", f"{BOARD}/link.ld",
                                         f"{BOARD}/start.c", f"{TOP}/library/tests/board.c"], QEMU_BOARD),
+    "LEON3, a machine": ("sparc64-linux-gnu-gcc", ["-m32", "-mcpu=leon3", "-fno-pic", "-fno-pie", "-static", "-no-pie", "-z", "noexecstack",
+                                                   *MACHINE, "-T", f"{LEON3}/link.ld", f"{LEON3}/start.S", f"{LEON3}/board.c"], QEMU_LEON3),
+    "RISC-V of 32 bits, a machine": ("riscv64-unknown-elf-gcc", ["-march=rv32imac", "-mabi=ilp32", "-mcmodel=medany", *MACHINE, "-T", f"{RISCV32}/link.ld",
+                                                                 f"{RISCV32}/start.S", f"{RISCV32}/board.c"], QEMU_RISCV32),
 }
 WANTED = "x86-64, gcc"
-PACKAGES = """wabt binaryen qemu-user gcc-i686-linux-gnu libc6-dev-i386-cross gcc-arm-linux-gnueabihf libc6-dev-armhf-cross
-    gcc-powerpc-linux-gnu libc6-dev-powerpc-cross gcc-s390x-linux-gnu libc6-dev-s390x-cross gcc-sparc64-linux-gnu libc6-dev-sparc64-cross
-    gcc-multilib-sparc64-linux-gnu libc6-dev-sparc-sparc64-cross
-    gcc-riscv64-linux-gnu libc6-dev-riscv64-cross gcc-aarch64-linux-gnu libc6-dev-arm64-cross gcc-arm-none-eabi libnewlib-arm-none-eabi
-    qemu-system-arm""".split()
+# What the file asks for: of the C library, and of the compiler's own functions on a processor without an operating system.
+LIBC = {"memcpy", "memmove", "memset"}
+BARE = {
+    "Cortex-M3": (["arm-none-eabi-gcc", "-mcpu=cortex-m3", "-mthumb"], {"__ctzdi2"}),
+    "LEON3": (["sparc64-linux-gnu-gcc", "-m32", "-mcpu=leon3"],
+              {"__ashldi3", "__lshrdi3", "__bswapsi2", "__bswapdi2", "__clzsi2", "__clzdi2", "__ctzsi2", "__ctzdi2"}),
+    "RISC-V of 32 bits": (["riscv64-unknown-elf-gcc", "-march=rv32imac", "-mabi=ilp32"],
+                          {"__ashldi3", "__lshrdi3", "__bswapdi2", "__bswapsi2", "__clzsi2", "__clzdi2", "__ctzsi2", "__ctzdi2"}),
+    "RISC-V of 64 bits": (["riscv64-linux-gnu-gcc"], {"__bswapsi2", "__bswapdi2", "__clzdi2", "__ctzdi2"}),
+    "x86-64": (["gcc"], set()),
+}
 # Builds in which the big end is wrong: a text of the file, and what stands in its place.
 BACKWARDS = "m + last + SLACK - ({} - BASE) - count"
-WRONG = {"memory.copy backwards, with the big end first": ("memmove(place(to), place(from), count);",
-                                                           f"memmove({BACKWARDS.format('to')}, {BACKWARDS.format('from')}, count);"),
+WRONG = {"memory.copy backwards, with the big end first": ("memmove(out, place(from), count);",
+                                                           f"memmove(out == place(to) ? {BACKWARDS.format('to')} : out, {BACKWARDS.format('from')}, count);"),
          "words in the order of the processor": ("__builtin_bswap##bits(value)", "(value)")}
 
 
@@ -79,15 +98,6 @@ def run(words, given=None, where=TOP, limit=600):
     if found.returncode:
         raise RuntimeError(f"{words[0]} ended with {found.returncode}: {(found.stdout + found.stderr)[-400:]!r}")
     return found.stdout
-
-
-def fetched():
-    """Takes what is missing from Debian's packages, if it can."""
-    needed = [it for compiler, _, emulator in TARGETS.values() for it in (compiler, *emulator[:1])] + ["wasm2c", "wasm-opt"]
-    if all(map(shutil.which, needed)) or os.geteuid() or not shutil.which("apt-get"):
-        return
-    for words in (["update", "-q"], ["install", "-q", "-y", "--no-install-recommends", *PACKAGES]):
-        subprocess.run(["apt-get", *words], stdout=subprocess.DEVNULL, stderr=subprocess.DEVNULL, timeout=900)
 
 
 class Room:
@@ -110,7 +120,7 @@ class Room:
         processors.compile_driver("gcc", [processors.LIBRARY, f"{TOP}/library/heap.c"], native, False)
         self.wanted = {name: processors.ran([native], lines) for name, (lines, _) in self.tests.items()}
         self.whole, self.parts = states(random.Random(68))
-        self.unsaved = processors.ran([native], [line for line in self.whole if line != "save"])
+        self.saved = processors.ran([native], self.whole)
 
     def driver(self, name, made):
         """The driver of a target over a pocket.c."""
@@ -122,8 +132,24 @@ class Room:
         return [*emulator, to]
 
 
+def over(words, path):
+    """A command for a machine, over what a file has."""
+    return [word.replace("INPUT", path).replace("LENGTH", str(os.path.getsize(path))) for word in words]
+
+
 def printed(words, lines):
-    return run(words, "".join(line + "\n" for line in lines).encode()).decode().splitlines()
+    text = "".join(line + "\n" for line in lines).encode()
+    if words[:len(QEMU_LEON3)] != QEMU_LEON3 and words[:len(QEMU_RISCV32)] != QEMU_RISCV32:
+        return run(words, text).decode().splitlines()
+    with tempfile.NamedTemporaryFile(prefix="pocket-lines-") as file:
+        file.write(text)
+        file.flush()
+        return run(over(words, file.name)).decode().splitlines()
+
+
+def of_receivers(lines):
+    """Lines that a driver prints, with the states of receivers alone: the library has none of senders."""
+    return [re.sub(r"^saved \d+ sender \S* ", "saved ", line) for line in lines]
 
 
 def compares(room, name, saved):
@@ -155,17 +181,40 @@ def same(one, other):
         return first.read() == second.read()
 
 
+def symbols(compiler, flags, made, to):
+    """The names that an object of the file asks for, and those of its calls."""
+    run([*compiler, *STRICT, *flags, "-c", f"{made}/pocket.c", "-o", to])
+    told = [line.split() for line in run(["nm", to]).decode().splitlines()]
+    return {words[1] for words in told if words[0] == "U"} - {"_GLOBAL_OFFSET_TABLE_"}, {words[2] for words in told if words[1] == "T"}
+
+
+def asks(room, name):
+    """What the file asks for on a processor without an operating system or a C library, beside what is told of it, or None."""
+    compiler, helpers = BARE[name]
+    need(compiler[0])
+    for level in ("-Os", "-O3"):
+        asked, _ = symbols(compiler, [level, "-ffreestanding", "-DPOCKET_NO_HEAP", "-DPOCKET_NO_LIBC"], room.made, room.at(f"bare-{name}.o"))
+        if asked - helpers:
+            return f"{level} asks for {sorted(asked - helpers)}"
+    return None
+
+
+def upsets(room):
+    """How a call does harm, or has no end, if a bit of its block was turned before it (library/tests/upset.c), or None."""
+    need("gcc")
+    to = room.at("upset")
+    run(["gcc", *STRICT, "-O1", "-g", *SANITIZERS, "-D_POSIX_C_SOURCE=200809L", "-I", room.made, "-o", to, f"{TOP}/library/tests/upset.c", f"{room.made}/pocket.c"])
+    found = run([to, "1", "13", "64", "1024"]).decode().splitlines()[-1]
+    return None if found.endswith(" passed, 0 failed") and not found.startswith("0 ") else found
+
+
 def complains(room, compiler):
     """Whether a compiler takes the file without a flag and without a complaint, and what it asks the C library for."""
     need(compiler)
-    bare = {"memcpy", "memmove", "memset"}
-    for flags, needs in (([], bare | {"malloc", "free"}), (["-DPOCKET_NO_HEAP"], bare), (["-DPOCKET_NO_RECEIVER", "-DPOCKET_NO_HEAP"], bare),
-                         (["-DPOCKET_NO_SENDER", "-DPOCKET_NO_HEAP"], bare), (["-DPOCKET_UNCHECKED"], bare | {"malloc", "free"})):
+    for flags, needs in (([], LIBC | {"malloc", "free"}), (["-DPOCKET_NO_HEAP"], LIBC), (["-DPOCKET_NO_RECEIVER", "-DPOCKET_NO_HEAP"], LIBC),
+                         (["-DPOCKET_NO_SENDER", "-DPOCKET_NO_HEAP"], LIBC), (["-DPOCKET_UNCHECKED"], LIBC | {"malloc", "free"})):
         to = room.at(f"{compiler}.o")
-        run([compiler, *STRICT, "-O0" if flags else "-O1", *flags, "-c", f"{room.made}/pocket.c", "-o", to])
-        told = [line.split() for line in run(["nm", to]).decode().splitlines()]
-        asked = {words[1] for words in told if words[0] == "U"} - {"_GLOBAL_OFFSET_TABLE_"}
-        calls = {words[2] for words in told if words[1] == "T"}
+        asked, calls = symbols([compiler], ["-O0" if flags else "-O1", *flags], room.made, to)
         if asked - needs:
             return f"{flags} asks for {sorted(asked - needs)}"
         left_out = {"-DPOCKET_NO_SENDER": "send", "-DPOCKET_NO_RECEIVER": "receive"}.get(flags[0] if flags else "")
@@ -205,14 +254,24 @@ def wrong(room, name):
     return "it gives what is right" if found == [line for lines in room.wanted.values() for line in lines] else None
 
 
-def board(room):
-    """Whether the loop on board of the example makes the packets that `compress` makes."""
-    need("make", "arm-none-eabi-gcc", QEMU_BOARD[0])
-    folder, data = room.at("board"), f"{TOP}/crates/pocket/data/hk.rec"
+def helpers(room):
+    """How the functions for 64 bits of the examples differ from what C says, or None."""
+    run(["gcc", *STRICT, "-O1", "-o", room.at("helpers"), f"{TOP}/library/tests/helpers.c"])
+    found = run([room.at("helpers")]).decode().splitlines()[-1]
+    return None if found.endswith(" passed, 0 failed") else found
+
+
+def board(room, example, compiler, machine):
+    """Whether the loop on board of an example makes the packets that `compress` makes."""
+    need("make", compiler, machine[0])
+    folder, data = room.at(f"board-{machine[0]}"), f"{TOP}/crates/pocket/data/hk.rec"
     os.makedirs(folder)
     shutil.copy(data, folder)
-    run(["make", "-s", "-C", BOARD, f"POCKET={room.made}", f"OUT={folder}"])
-    run([*QEMU_BOARD, f"{folder}/onboard.elf"], where=folder)
+    run(["make", "-s", "-C", example, f"POCKET={room.made}", f"OUT={folder}"])
+    told = run([*over(machine, data), f"{folder}/onboard.elf"], where=folder)
+    if machine != QEMU_BOARD:
+        with open(f"{folder}/hk.store", "wb") as file:
+            file.write(told)
     with open(f"{folder}/plan", "w", encoding="ascii") as file:
         file.write("20,4294967295,20,p\n30,30,1,fr\n")
     run([processors.PROGRAM, "compress", "in=hk.rec", "out=wanted", "bits=64", "apid=100", "robust=2", "plan=plan"], where=folder)
@@ -239,6 +298,15 @@ def from_python(room):
     return None if found.returncode == 0 and found.stdout.endswith(b" passed, 0 failed\n") else (found.stdout + found.stderr)[-400:]
 
 
+def any_states(room):
+    """How bytes that are taken for a state do harm (library/tests/states.c), by the sanitizers, or None."""
+    need("gcc")
+    to = room.at("states")
+    run(["gcc", *STRICT, "-O1", "-g", *SANITIZERS, "-I", room.made, "-o", to, f"{TOP}/library/tests/states.c", f"{room.made}/pocket.c"])
+    found = run([to, "20000"]).decode().splitlines()[-1]
+    return None if found.endswith(" passed, 0 failed") and not found.startswith("0 ") else found
+
+
 def tries(room, saved):
     """All that is tried beside the making: each with its name, and a function that gives what is wrong, or None."""
     yield "dist/ is what the sources make", lambda: same_as_committed(room)
@@ -252,10 +320,17 @@ def tries(room, saved):
     yield "the file's own, on powerpc", lambda: own(room, TARGETS["powerpc"][0], "some", ["-O1", "-static"], TARGETS["powerpc"][2])
     for name in WRONG:
         yield f"a wrong build fails: {name}", lambda n=name: wrong(room, n)
-    yield "the example for Cortex-M", lambda: board(room)
+    for name in BARE:
+        yield f"what it asks for: {name}", lambda n=name: asks(room, n)
+    yield "each bit of a block turned", lambda: upsets(room)
+    yield "the helpers for 64 bits", lambda: helpers(room)
+    for name, *how in (("Cortex-M", BOARD, "arm-none-eabi-gcc", QEMU_BOARD), ("LEON3", LEON3, "sparc64-linux-gnu-gcc", QEMU_LEON3),
+                       ("RISC-V of 32 bits", RISCV32, "riscv64-unknown-elf-gcc", QEMU_RISCV32)):
+        yield f"the example for {name}", lambda h=how: board(room, *h)
     yield "the program, on x86-64", lambda: program(room, "gcc", ["-O0"], [])
     yield "the program, on powerpc", lambda: program(room, TARGETS["powerpc"][0], ["-O0", "-static"], TARGETS["powerpc"][2])
     yield "states from Python", lambda: from_python(room)
+    yield "any bytes as a state", lambda: any_states(room)
 
 
 def tried(attempt):
@@ -271,7 +346,6 @@ def tried(attempt):
 def main():
     passed = failed = skipped = 0
     os.umask(0o022)
-    fetched()
     with tempfile.TemporaryDirectory(prefix="pocket-one-file-") as folder:
         os.chmod(folder, 0o755)
         room = Room(folder)
@@ -283,10 +357,10 @@ def main():
             skipped += 1
         room.known()
         saved = printed(room.driver(WANTED, room.made), room.whole)
-        left = processors.differing([line for line in saved if not line.startswith("saved ")], room.unsaved)
+        left = processors.differing(of_receivers(saved), of_receivers(room.saved))
         names, attempts = zip(*tries(room, saved))
         with concurrent.futures.ThreadPoolExecutor(os.cpu_count()) as at_once:
-            found = [("a sender and a receiver that are saved", left), *zip(names, at_once.map(tried, attempts))]
+            found = [("states of receivers, as the library", left), *zip(names, at_once.map(tried, attempts))]
         for name, fault in found:
             if fault is None:
                 passed += 1

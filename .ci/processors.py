@@ -5,8 +5,7 @@ At the top, after the gate's proofs: .ci/processors.py. It builds the library fo
 library/tests/driver.c by Debian's cross compiler, and runs it under qemu-user on the cases below, as it runs the gate's library of x86-64
 (crates/pocket_c/out). What is printed has to be the same; what the worked inputs give is worked out in docs/FORMATS.md; and the packets
 and what is received of the random cases are what `compress` and `restore` of the program give, if crates/pocket/out/pocket is there.
-If the compilers or qemu are not there and can't be had from Debian's packages (as root), what needs them is skipped, by name. Its last line
-is 'N passed, M failed, K skipped'.
+If the compilers or qemu are not there (.ci/needs.py), what needs them is skipped, by name. Its last line is 'N passed, M failed, K skipped'.
 """
 
 import os
@@ -21,7 +20,6 @@ from rows import VERBS
 
 TOP = os.path.dirname(os.path.dirname(os.path.abspath(__file__)))
 TARGETS = {"aarch64-linux-gnu": "qemu-aarch64", "riscv64-linux-gnu": "qemu-riscv64"}
-PACKAGES = "gcc-aarch64-linux-gnu gcc-riscv64-linux-gnu libc6-dev-arm64-cross libc6-dev-riscv64-cross qemu-user make".split()
 LIBRARY = f"{TOP}/crates/pocket_c/out/libpocket_c.a"
 PROGRAM = f"{TOP}/crates/pocket/out/pocket"
 CASES, SEED = 300, 57
@@ -71,7 +69,8 @@ def text(number, bits):
 
 def lines_of(case):
     bits, mask, robust, steps = case
-    return [f"open {bits} {mask or '-'}", *(f"send {flags} {robust} {fate} {given}" for flags, fate, given in steps), "close"]
+    sends = [f"send {flags} {robust} {fate} {given}" for flags, fate, given in steps]
+    return [f"open {bits} {mask or '-'}", *sends[:len(sends) // 2], *["state"] * (bits < 5000), *sends[len(sends) // 2:], "close"]
 
 
 def verb_lines():
@@ -151,12 +150,8 @@ def compile_driver(compiler, library, to, has_desk):
 
 
 def has_tools():
-    """Whether the compilers and qemu are there, or could be had."""
-    missing = lambda: [it for pair in TARGETS.items() for it in (f"{pair[0]}-gcc", pair[1]) if not shutil.which(it)]
-    if missing() and os.geteuid() == 0 and shutil.which("apt-get"):
-        for words in (["update", "-q"], ["install", "-q", "-y", "--no-install-recommends", *PACKAGES]):
-            subprocess.run(["apt-get", *words], stdout=subprocess.DEVNULL, stderr=subprocess.DEVNULL, timeout=900)
-    return not missing() and shutil.which("make")
+    """Whether the compilers, qemu and make are there."""
+    return all(map(shutil.which, ["make", *TARGETS.values(), *(f"{target}-gcc" for target in TARGETS)]))
 
 
 def wrong_lines():

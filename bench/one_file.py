@@ -2,7 +2,7 @@
 """Measures the one C file, and prints the tables of docs/BENCHMARK.md: python3 bench/one_file.py > tables.md
 
 At the top, after the gate's proofs (crates/pocket_c/out) and `make dist`; --dist names another folder than dist/. It takes gcc, valgrind, Debian's
-cross compilers and qemu-user, and leaves out what is not there. Instructions are counted by valgrind, the same in each run, and no times.
+cross compilers, and leaves out what is not there. Instructions are counted by valgrind, the same in each run, and no times.
 """
 
 import argparse
@@ -19,18 +19,19 @@ from recordings import KINDS, Kind, record
 HERE = os.path.dirname(os.path.abspath(__file__))
 TOP = os.path.dirname(HERE)
 BITS = (8, 64, 1024, 8192, 49_152)
-# What the file is compiled for, by which compiler, with which flags, and what runs it.
+# What the file is compiled for, by which compiler, and with which flags.
 PROCESSORS = {
-    "x86-64": ("gcc", [], []), "i386": ("i686-linux-gnu-gcc", [], ["qemu-i386"]), "Cortex-M3": ("arm-none-eabi-gcc", ["-mcpu=cortex-m3", "-mthumb"], None),
-    "Cortex-R5": ("arm-none-eabi-gcc", ["-mcpu=cortex-r5", "-mthumb"], None), "armhf": ("arm-linux-gnueabihf-gcc", [], ["qemu-arm"]),
-    "powerpc": ("powerpc-linux-gnu-gcc", [], ["qemu-ppc"]), "LEON3": ("sparc64-linux-gnu-gcc", ["-m32", "-mcpu=leon3"], ["qemu-sparc32plus"]),
-    "sparc64": ("sparc64-linux-gnu-gcc", [], ["qemu-sparc64"]), "s390x": ("s390x-linux-gnu-gcc", [], ["qemu-s390x"]),
-    "riscv64": ("riscv64-linux-gnu-gcc", [], ["qemu-riscv64"]), "aarch64": ("aarch64-linux-gnu-gcc", [], ["qemu-aarch64"]),
+    "x86-64": ("gcc", []), "i386": ("i686-linux-gnu-gcc", []), "Cortex-M3": ("arm-none-eabi-gcc", ["-mcpu=cortex-m3", "-mthumb"]),
+    "Cortex-R5": ("arm-none-eabi-gcc", ["-mcpu=cortex-r5", "-mthumb"]), "armhf": ("arm-linux-gnueabihf-gcc", []),
+    "powerpc": ("powerpc-linux-gnu-gcc", []), "LEON3": ("sparc64-linux-gnu-gcc", ["-m32", "-mcpu=leon3"]), "sparc64": ("sparc64-linux-gnu-gcc", []),
+    "s390x": ("s390x-linux-gnu-gcc", []), "riscv32": ("riscv64-unknown-elf-gcc", ["-march=rv32imac", "-mabi=ilp32"]),
+    "riscv64": ("riscv64-linux-gnu-gcc", []), "aarch64": ("aarch64-linux-gnu-gcc", []),
 }
 # The dearest packets that were found: in each byte the bits of CC and of 66 turn, in turn, and each has a new mask, its mask and content.
 DEAREST = Kind("dearest", 1024, "dearest", 0, 100, "always")
-WAYS = {"sender alone": ["-DPOCKET_NO_RECEIVER", "-DPOCKET_NO_HEAP"], "both": ["-DPOCKET_NO_HEAP"],
-        "both, unchecked": ["-DPOCKET_NO_HEAP", "-DPOCKET_UNCHECKED"]}
+BARE = ["-ffreestanding", "-DPOCKET_NO_HEAP", "-DPOCKET_NO_LIBC"]
+WAYS = {"sender alone": [*BARE, "-DPOCKET_NO_RECEIVER", "-DPOCKET_NO_STATES"], "both": [*BARE, "-DPOCKET_NO_STATES"], "both, with states": BARE,
+        "both, unchecked": [*BARE, "-DPOCKET_NO_STATES", "-DPOCKET_UNCHECKED"]}
 
 
 def run(words, where=None):
@@ -48,7 +49,7 @@ def sections(dist, folder, compiler, flags):
 
 def sizes(dist, folder):
     """The rows of what the file takes by processor."""
-    for name, (compiler, flags, _) in PROCESSORS.items():
+    for name, (compiler, flags) in PROCESSORS.items():
         if shutil.which(compiler):
             found = [sections(dist, folder, compiler, [*flags, *way]) for way in WAYS.values()]
             yield name, *(text for text, _ in found), sum(data for _, data in found)
@@ -66,7 +67,7 @@ def memories(dist, folder):
     with open(source, "w", encoding="ascii") as file:
         file.write('#include "pocket.c"\n#include <stdio.h>\n#include <stdlib.h>\nint main(int n, char **w) {\n    u32 b = (u32)atoi(w[n - 1]);\n'
                    '    printf("%zu %zu %u %u\\n", pocket_sender_bytes(b), pocket_receiver_bytes(b),\n'
-                   "           heap_bytes(SENDER, b) + 36, heap_bytes(RECEIVER, b) + 36);\n    return 0;\n}\n")
+                   "           (unsigned)pocket_state_bytes(b, 1), (unsigned)pocket_state_bytes(b, 2));\n    return 0;\n}\n")
     run(["gcc", "-O1", "-I", dist, "-o", f"{folder}/bytes", source])
     for bits in BITS:
         yield bits, *map(int, run([f"{folder}/bytes", str(bits)]).split())
@@ -100,20 +101,33 @@ def packets(dist, folder, only):
             yield kind.name, kind.bits, call, *map(round, one), f"{one[1] / one[0]:.2f}", f"{one[2] / one[0]:.2f}"
 
 
+def deepest(text, calls):
+    """The most bytes of C's stack that each call takes, from what gcc tells of its functions and of whom they call; no function calls itself."""
+    own = {title: int(size) for title, size in re.findall(r'^node: \{ title: "([^"]+)" label: "[^"]*\\n(\d+) bytes \((?:static|dynamic,bounded)\)', text, re.M)}
+    called = {}
+    for caller, callee in re.findall(r'^edge: \{ sourcename: "([^"]+)" targetname: "([^"]+)"', text, re.M):
+        called.setdefault(caller, set()).add(callee)
+    known = {}
+
+    def depth(name, above):
+        if name in above:
+            raise ValueError(f"{name} calls itself")
+        if name not in known:
+            known[name] = own.get(name, 0) + max((depth(it, above | {name}) for it in called.get(name, ())), default=0)
+        return known[name]
+
+    return [depth(call, frozenset()) for call in calls]
+
+
 def stacks(dist, folder):
-    """The rows of C's own stack, by processor: of an opening, a send and a receive."""
-    recording = os.path.join(folder, "recording")
-    for name, (compiler, flags, emulator) in PROCESSORS.items():
-        if emulator is None or not all(map(shutil.which, [compiler, *emulator[:1]])):
-            continue
-        program = built(dist, folder, "stack", compiler, ["-Os", "-static", *flags], [f"{dist}/pocket.c"])
-        deepest = [0, 0, 0]
-        for bits in (64, 1024):
-            for planned in "01":
-                record(recording, bits, 120, "noisy")
-                told = map(int, run([*emulator, program, str(bits), recording, "120", "stack", planned]).split())
-                deepest = [max(pair) for pair in zip(deepest, told)]
-        yield name, *deepest
+    """The rows of C's own stack, by processor: of an opening, a send, a receive, and a saving and a loading of a state."""
+    calls = [f"pocket_checked_{it}" for it in ("sender_open_in", "receiver_open_in", "send", "receive", "save", "load")]
+    for name, (compiler, flags) in PROCESSORS.items():
+        if shutil.which(compiler):
+            run([compiler, "-std=c99", "-Os", *flags, *BARE, "-fcallgraph-info=su", "-c", f"{dist}/pocket.c", "-o", "pocket.o"], where=folder)
+            with open(os.path.join(folder, "pocket.ci"), encoding="utf-8") as file:
+                found = deepest(file.read(), calls)
+            yield name, max(found[:2]), found[2], found[3], max(found[4:])
 
 
 def main():
@@ -125,8 +139,8 @@ def main():
     with tempfile.TemporaryDirectory() as folder:
         heads = ["Bits of an input", "Bytes of a sender", "Of a receiver", "State of a sender", "State of a receiver"]
         measure.show_table("The one C file: memory", heads, memories(dist, folder))
-        measure.show_table("The one C file: text and constants", ["Processor", *WAYS, "data of all three"], sizes(dist, folder))
-        measure.show_table("The one C file: C's own stack", ["Processor", "An opening", "A send", "A receive"], stacks(dist, folder))
+        measure.show_table("The one C file: text and constants", ["Processor", *WAYS, "data of all"], sizes(dist, folder))
+        measure.show_table("The one C file: C's own stack", ["Processor", "An opening", "A send", "A receive", "A state"], stacks(dist, folder))
         if measure.can_count():
             heads = ["Inputs", "Bits", "Call", "The library", "The file", "Unchecked", "Times as many", "Unchecked, times"]
             measure.show_table("The one C file: instructions for a packet", heads, packets(dist, folder, given.quick))

@@ -75,6 +75,22 @@ pocket_status pocket_checked_counts(pocket_handle *handle, pocket_tally *tally)
 }
 #endif
 
+#ifndef POCKET_NO_STATES
+pocket_status pocket_checked_save(pocket_handle *handle, uint8_t *state, size_t room, size_t *length)
+{
+    if (handle == NULL || length == NULL || POCKET_BYTES_ARE_NULL(state, room))
+        return POCKET_NULL;
+    return (pocket_status)pocket_save(handle, state, room, length);
+}
+
+pocket_status pocket_checked_load(pocket_handle *handle, const uint8_t *state, size_t length)
+{
+    if (handle == NULL || POCKET_BYTES_ARE_NULL(state, length))
+        return POCKET_NULL;
+    return (pocket_status)pocket_load(handle, POCKET_NO_BYTES(state), length);
+}
+#endif
+
 pocket_status pocket_checked_bits(pocket_handle *handle, uint32_t *bits)
 {
     return handle == NULL || bits == NULL ? POCKET_NULL : (pocket_status)pocket_bits(handle, bits);

@@ -1,6 +1,6 @@
 /* The calls of pocket.h, written by hand. From the head on a block has the stack, the constants, the handle of the generated part, what its
  * calls tell, its heap, room for an input or a content, and of a receiver room for the data of a packet. An address from OUTSIDE on is a
- * place in the caller's room for a packet: only copies go there. */
+ * place in a room of the caller, for a packet or a state. */
 #define OUTSIDE 0x80000000u
 enum { SENDER = 1, RECEIVER = 2 };
 enum { HANDLE = (HEAP_BASE + 15) / 16 * 16, TOLD = HANDLE + 16, TOLD_LEVEL = TOLD + 8, FIRST = TOLD + 48 };
@@ -18,6 +18,14 @@ static u32 content_at(u32 kind, u32 bits) {
     return FIRST + heap_bytes(kind, bits);
 }
 
+static u32 kind_of(const u8 *m) {
+    return head_of(m, SHAPE_AT) >> 16;
+}
+
+static u32 bits_of(const u8 *m) {
+    return head_of(m, SHAPE_AT) & 0xFFFFu;
+}
+
 #ifndef POCKET_NO_RECEIVER
 static u32 data_at(u32 content, u32 bits) {
     return content + ROUNDED(POCKET_INPUT_BYTES(bits) + 1u, 8u);
@@ -33,7 +41,7 @@ static u32 data_bytes(u32 bits) {
 /* Memory of the heap: the next bytes that are free, since nothing is given back before the handle is closed. */
 static void heap_alloc(u8 *m, u32 last, u64 told, u64 bytes, u64 align) {
     const u32 free_at = ROUNDED(head_of(m, FREE_AT), 8u);
-    const u32 end = head_of(m, CONTENT_AT);
+    const u32 end = content_at(kind_of(m), bits_of(m));
     const bool found = align <= 8u && free_at <= end && bytes <= end - free_at;
     if (!lie_in(last, (u32)told, 16u)) {
         set_broken(m);
@@ -49,20 +57,26 @@ static void heap_dealloc(u8 *m, u32 last, u64 at) {
     (void)m, (void)last, (void)at;
 }
 
+/* Where so many bytes from an address on are: in the block, or in the room of the caller that the head has; NULL if they are in neither. */
+static u8 *where(u8 *m, u32 last, u32 address, u32 count) {
+    const u32 by = address - OUTSIDE, room = head_of(m, ROOM_AT);
+    u8 *out;
+    if (lie_in(last, address, count))
+        return place(address);
+    POCKET_COPY(&out, m - OUT_AT, sizeof out);
+    return out == NULL || by > room || count > room - by ? NULL : out + by;
+}
+
 static bool copied(u8 *m, u32 last, u32 to, u32 from, u32 count) {
     u8 *out;
     if (count == 0)
         return true;
     if (!lie_in(last, from, count))
         return false;
-    if (lie_in(last, to, count)) {
-        memmove(place(to), place(from), count);
-        return true;
-    }
-    memcpy(&out, m - OUT_AT, sizeof out);
-    if (out == NULL || to < OUTSIDE || to - OUTSIDE > head_of(m, ROOM_AT) || count > head_of(m, ROOM_AT) - (to - OUTSIDE))
+    out = where(m, last, to, count);
+    if (out == NULL)
         return false;
-    memcpy(out + (to - OUTSIDE), place(from), count);
+    memmove(out, place(from), count);
     return true;
 }
 /* @generated@ */
@@ -71,18 +85,27 @@ static u8 *block_of(const pocket_handle *handle) {
     return (u8 *)handle->at + HEAD_BYTES;
 }
 
-/* Whether a call of a handle can begin: POCKET_DONE, or why not. */
-static u32 begun(const pocket_handle *handle, u32 kind) {
+/* Where the data of a packet go during a send, or where a state is as it is saved or loaded: the addresses from OUTSIDE on. */
+static POCKET_MAYBE_UNUSED void set_out(u8 *m, u8 *out, u32 room) {
+    POCKET_COPY(m - OUT_AT, &out, sizeof out);
+    set_head(m, ROOM_AT, room);
+}
+
+/* Whether a call of a handle of either kind can begin: POCKET_DONE, or why not. */
+static u32 begun_of_any(const pocket_handle *handle) {
     u8 *m;
     if (handle->at == NULL)
         return POCKET_IS_CLOSED;
     m = block_of(handle);
-    if (head_of(m, BROKEN_AT))
+    if (head_of(m, BROKEN_AT) || head_of(m, SHAPE_AT) != ~head_of(m, SHAPE_TURNED_AT) || head_of(m, LAST_AT) != ~head_of(m, LAST_TURNED_AT))
         return POCKET_BROKEN;
-    if (head_of(m, KIND_AT) != kind)
-        return POCKET_OTHER_KIND;
     set_head(m, STACK_AT, STACK_TOP);
     return POCKET_DONE;
+}
+
+static u32 begun(const pocket_handle *handle, u32 kind) {
+    const u32 status = begun_of_any(handle);
+    return status == POCKET_DONE && kind_of(block_of(handle)) != kind ? (u32)POCKET_OTHER_KIND : status;
 }
 
 /* What a call answers that had a status, or was ended. */
@@ -103,34 +126,37 @@ static u8 *made_block(void *memory, u32 kind, u32 bits, size_t bytes) {
     const size_t skip = (16u - ((uintptr_t)memory & 15u)) & 15u;
     u8 *const m = (u8 *)memory + skip + HEAD_BYTES;
     const u32 last = (u32)(bytes - 15u - HEAD_BYTES - SLACK);
-    memset(m - HEAD_BYTES, 0, HEAD_BYTES + (size_t)last + SLACK);
+    memset(m - HEAD_BYTES, 0, bytes - 15u);
 #if CONSTANT_BYTES > 0
     memcpy(place(STACK_TOP), constants, CONSTANT_BYTES);
 #endif
     set_head(m, STACK_AT, STACK_TOP);
     set_head(m, FREE_AT, FIRST);
+    set_head(m, SHAPE_AT, kind << 16 | bits);
+    set_head(m, SHAPE_TURNED_AT, ~(kind << 16 | bits));
     set_head(m, LAST_AT, last);
-    set_head(m, BITS_AT, bits);
-    set_head(m, KIND_AT, kind);
-    set_head(m, CONTENT_AT, content_at(kind, bits));
+    set_head(m, LAST_TURNED_AT, ~last);
     return m;
 }
 
-/* Gives the handle a block that was opened, or none. */
+/* Gives the handle a block that was opened, or none. The handle's own number tells whose the memory is: OF_CALLER, or by how many bytes
+ * more the block lies behind what malloc gave. */
+enum { OF_CALLER = 1, OF_MALLOC = 2 };
+
 static u32 opened(pocket_handle *handle, u8 *m, u32 status) {
     status = ended(m, status);
     if (status == POCKET_DONE) {
         handle->at = m - HEAD_BYTES;
-        handle->state = 1;
+        handle->state = OF_CALLER;
     }
     return status;
 }
 
 #ifndef POCKET_NO_HEAP
 /* Marks the block of a handle as one that is given back, or gives the memory back now if nothing was opened in it. */
-static u32 owned(const pocket_handle *handle, void *memory, u32 status) {
+static u32 owned(pocket_handle *handle, void *memory, u32 status) {
     if (status == POCKET_DONE)
-        memcpy(block_of(handle) - OWNED_AT, &memory, sizeof memory);
+        handle->state = OF_MALLOC + (size_t)((u8 *)handle->at - (u8 *)memory);
     else
         free(memory);
     return status;
@@ -138,10 +164,13 @@ static u32 owned(const pocket_handle *handle, void *memory, u32 status) {
 #endif
 
 #ifndef POCKET_NO_SENDER
-/* Where the data of a packet go during a send. */
-static void set_out(u8 *m, u8 *out, u32 room) {
-    memcpy(m - OUT_AT, &out, sizeof out);
-    set_head(m, ROOM_AT, room);
+/* What is wrong with a first mask, which is told before there is memory for a sender: POCKET_DONE, or what its opening would answer. */
+static u32 mask_fault(uint32_t bits, const uint8_t *mask, size_t length) {
+    if (length == 0)
+        return POCKET_DONE;
+    if (length != POCKET_INPUT_BYTES(bits))
+        return POCKET_MASK_LENGTH;
+    return bits % 8 && (mask[length - 1] & 0xFFu >> bits % 8) ? POCKET_MASK_SPARE_BIT : POCKET_DONE;
 }
 
 size_t pocket_sender_bytes(uint32_t bits) {
@@ -156,6 +185,8 @@ uint32_t pocket_sender_open_in(pocket_handle *handle, void *memory, size_t size,
         return POCKET_IS_OPEN;
     if (bytes == 0)
         return POCKET_BITS;
+    if (mask_fault(bits, mask, mask_length) != POCKET_DONE)
+        return mask_fault(bits, mask, mask_length);
     if (size < bytes)
         return POCKET_NO_MEMORY;
     m = made_block(memory, SENDER, bits, bytes);
@@ -172,6 +203,8 @@ uint32_t pocket_sender_open(pocket_handle *handle, uint32_t bits, const uint8_t 
         return POCKET_IS_OPEN;
     if (bytes == 0)
         return POCKET_BITS;
+    if (mask_fault(bits, mask, mask_length) != POCKET_DONE)
+        return mask_fault(bits, mask, mask_length);
     memory = malloc(bytes);
     if (memory == NULL)
         return POCKET_NO_MEMORY;
@@ -185,7 +218,7 @@ uint32_t pocket_sender_reset(pocket_handle *handle, const uint8_t *mask, size_t 
     if (status != POCKET_DONE)
         return status;
     m = block_of(handle);
-    bits = head_of(m, BITS_AT);
+    bits = bits_of(m);
     at = content_at(SENDER, bits);
     length = given(m, at, mask, mask_length, (u32)POCKET_INPUT_BYTES(bits));
     return ended(m, code_pocket_sender_reset(m, head_of(m, LAST_AT), HANDLE, at, length));
@@ -198,19 +231,23 @@ uint32_t pocket_send(pocket_handle *handle, const uint8_t *input, size_t input_l
     if (status != POCKET_DONE)
         return status;
     m = block_of(handle);
-    bits = head_of(m, BITS_AT);
-    at = head_of(m, CONTENT_AT);
+    bits = bits_of(m);
+    at = content_at(SENDER, bits);
     count = given(m, at, input, input_length, (u32)POCKET_INPUT_BYTES(bits));
     data_room = room > POCKET_MOST_DATA ? POCKET_MOST_DATA : (u32)room;
     set_out(m, data, data_room);
     status = ended(m, code_pocket_send(m, head_of(m, LAST_AT), HANDLE, at, count, new_mask, send_mask, whole, robustness, OUTSIDE,
                                        data_room, TOLD, TOLD_LEVEL));
     set_out(m, NULL, 0);
-    if (status == POCKET_DONE) {
-        *length = (size_t)get64(place(TOLD));
-        *level = get8(place(TOLD_LEVEL));
+    if (status != POCKET_DONE)
+        return status;
+    if (get64(place(TOLD)) > room) {
+        set_broken(m);
+        return POCKET_BROKEN;
     }
-    return status;
+    *length = (size_t)get64(place(TOLD));
+    *level = get8(place(TOLD_LEVEL));
+    return POCKET_DONE;
 }
 
 uint32_t pocket_sent(pocket_handle *handle, uint64_t *packets) {
@@ -270,13 +307,13 @@ uint32_t pocket_receiver_reset(pocket_handle *handle) {
 
 uint32_t pocket_receive(pocket_handle *handle, uint16_t count, const uint8_t *data, size_t length, uint8_t *content, size_t room,
                         pocket_finding *finding) {
-    u32 status = begun(handle, RECEIVER), bits, at, from, told, most, content_room;
+    u32 status = begun(handle, RECEIVER), bits, at, from, told, most, content_room, kind;
     u8 *m;
     if (status != POCKET_DONE)
         return status;
     m = block_of(handle);
-    bits = head_of(m, BITS_AT);
-    at = head_of(m, CONTENT_AT);
+    bits = bits_of(m);
+    at = content_at(RECEIVER, bits);
     from = data_at(at, bits);
     most = data_bytes(bits);
     told = given(m, from, data, length, most);
@@ -286,17 +323,18 @@ uint32_t pocket_receive(pocket_handle *handle, uint16_t count, const uint8_t *da
     status = ended(m, code_pocket_receive(m, head_of(m, LAST_AT), HANDLE, count, from, told, at, content_room, TOLD));
     if (status != POCKET_DONE)
         return status;
-    finding->number = get64(place(TOLD));
-    finding->first_lost = get64(place(TOLD) + 8);
-    finding->lost = get64(place(TOLD) + 16);
-    finding->kind = get32(place(TOLD) + 24);
-    finding->value = get32(place(TOLD) + 28);
-    finding->mask_alone = get8(place(TOLD) + 32) != 0;
-    if (length > most && (finding->kind == POCKET_WRITTEN || finding->kind == POCKET_EARLY)) {
+    kind = get32(place(TOLD) + 24);
+    if (kind == POCKET_WRITTEN ? length > most || content_room < POCKET_INPUT_BYTES(bits) : kind == POCKET_EARLY && length > most) {
         set_broken(m);
         return POCKET_BROKEN;
     }
-    if (finding->kind == POCKET_WRITTEN)
+    finding->number = get64(place(TOLD));
+    finding->first_lost = get64(place(TOLD) + 8);
+    finding->lost = get64(place(TOLD) + 16);
+    finding->kind = kind;
+    finding->value = get32(place(TOLD) + 28);
+    finding->mask_alone = get8(place(TOLD) + 32) != 0;
+    if (kind == POCKET_WRITTEN)
         memcpy(content, place(at), POCKET_INPUT_BYTES(bits));
     return POCKET_DONE;
 }
@@ -318,15 +356,21 @@ uint32_t pocket_counts(pocket_handle *handle, pocket_tally *tally) {
 }
 #endif
 
+uint32_t pocket_bits(pocket_handle *handle, uint32_t *bits) {
+    const u32 status = begun_of_any(handle);
+    if (status == POCKET_DONE)
+        *bits = bits_of(block_of(handle));
+    return status;
+}
+
 uint32_t pocket_close(pocket_handle *handle) {
-    void *memory;
     if (handle->at == NULL)
         return POCKET_IS_CLOSED;
-    memcpy(&memory, block_of(handle) - OWNED_AT, sizeof memory);
+#ifndef POCKET_NO_HEAP
+    if (handle->state >= OF_MALLOC)
+        free((u8 *)handle->at - (handle->state - OF_MALLOC));
+#endif
     handle->at = NULL;
     handle->state = 0;
-#ifndef POCKET_NO_HEAP
-    free(memory);
-#endif
     return POCKET_DONE;
 }

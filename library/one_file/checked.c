@@ -15,22 +15,3 @@ pocket_status pocket_checked_receiver_open_in(pocket_handle *handle, void *memor
     return handle == NULL || memory == NULL ? POCKET_NULL : (pocket_status)pocket_receiver_open_in(handle, memory, size, bits);
 }
 #endif
-
-pocket_status pocket_checked_state_size(pocket_handle *handle, size_t *size)
-{
-    return handle == NULL || size == NULL ? POCKET_NULL : (pocket_status)pocket_state_size(handle, size);
-}
-
-pocket_status pocket_checked_save(pocket_handle *handle, uint8_t *state, size_t room, size_t *length)
-{
-    if (handle == NULL || length == NULL || POCKET_BYTES_ARE_NULL(state, room))
-        return POCKET_NULL;
-    return (pocket_status)pocket_save(handle, state, room, length);
-}
-
-pocket_status pocket_checked_load(pocket_handle *handle, const uint8_t *state, size_t length)
-{
-    if (handle == NULL || POCKET_BYTES_ARE_NULL(state, length))
-        return POCKET_NULL;
-    return (pocket_status)pocket_load(handle, POCKET_NO_BYTES(state), length);
-}

@@ -146,13 +146,13 @@ static bool begins(struct sink *sink) {
     return sink->to >= 0 || (unlink(sink->part) == 0 && makes_part(sink));
 }
 
-/* Opens what an output is written to: standard output, a pipe or a device, or a part beside its name. */
+/* Opens what an output is written to: standard output, which is not that of both, a pipe or a device, or a part beside its name. */
 static bool opens(const char *name, const struct sink *other, struct sink *sink) {
     struct stat standing;
     memset(sink, 0, sizeof *sink);
     if (is_standard_output(name)) {
         sink->to = 1;
-        return fstat(1, &sink->of) == 0 && !concerns(other, &sink->of);
+        return fstat(1, &sink->of) == 0 && (other == NULL || other->to != 1) && !concerns(other, &sink->of);
     }
     sink->to = open(name, O_WRONLY);
     if (sink->to < 0)

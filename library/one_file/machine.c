@@ -8,9 +8,11 @@
 #if defined(__GNUC__)
 #define POCKET_MAYBE_UNUSED __attribute__((unused))
 #define POCKET_SELDOM(is_so) __builtin_expect(!!(is_so), 0)
+#define POCKET_COPY __builtin_memcpy
 #else
 #define POCKET_MAYBE_UNUSED
 #define POCKET_SELDOM(is_so) (is_so)
+#define POCKET_COPY memcpy
 #endif
 
 typedef uint8_t u8;
@@ -25,28 +27,9 @@ typedef int64_t s64;
 enum { BASE = STACK_TOP - STACK_BYTES, SLACK = 8 };
 #define ROUNDED(bytes, to) (((u32)(bytes) + ((to) - 1u)) / (to) * (to))
 
-/* The head of a block: numbers of 32 bits, each so many bytes in front of it, and two pointers: to the caller's room for a packet during a
- * send, and to what malloc gave, if it did. */
-enum { STACK_AT = 4, FREE_AT = 8, LAST_AT = 12, BITS_AT = 16, KIND_AT = 20, BROKEN_AT = 24, ROOM_AT = 28, CONTENT_AT = 32, OUT_AT = 40, OWNED_AT = 48,
-       HEAD_BYTES = 48 };
-
-static u32 head_of(const u8 *m, u32 at) {
-    u32 value;
-    memcpy(&value, m - at, sizeof value);
-    return value;
-}
-
-static void set_head(u8 *m, u32 at, u32 value) {
-    memcpy(m - at, &value, sizeof value);
-}
-
-static POCKET_MAYBE_UNUSED void set_broken(u8 *m) {
-    set_head(m, BROKEN_AT, 1);
-}
-
 /* Numbers with the little end first: as they lie in memory, turned, or byte by byte if the processor's order is not known, or it reads
- * no word that is not aligned. */
-#if defined(__BYTE_ORDER__) && defined(__ORDER_LITTLE_ENDIAN__) && __BYTE_ORDER__ == __ORDER_LITTLE_ENDIAN__
+ * no word that is not aligned. POCKET_COPY of a word is no call, with an operating system or without. */
+#if defined(__GNUC__) && defined(__BYTE_ORDER__) && __BYTE_ORDER__ == __ORDER_LITTLE_ENDIAN__
 #define POCKET_ORDERED(bits, value) (value)
 #elif defined(__GNUC__) && defined(__BYTE_ORDER__) && __BYTE_ORDER__ == __ORDER_BIG_ENDIAN__ && !defined(__sparc__)
 #define POCKET_ORDERED(bits, value) __builtin_bswap##bits(value)
@@ -56,12 +39,12 @@ static POCKET_MAYBE_UNUSED void set_broken(u8 *m) {
 #define POCKET_NUMBER(bits) \
     static POCKET_MAYBE_UNUSED u##bits get##bits(const u8 *at) { \
         u##bits value; \
-        memcpy(&value, at, sizeof value); \
+        POCKET_COPY(&value, at, sizeof value); \
         return POCKET_ORDERED(bits, value); \
     } \
     static POCKET_MAYBE_UNUSED void put##bits(u8 *at, u##bits value) { \
         value = POCKET_ORDERED(bits, value); \
-        memcpy(at, &value, sizeof value); \
+        POCKET_COPY(at, &value, sizeof value); \
     }
 POCKET_NUMBER(16)
 POCKET_NUMBER(32)
@@ -90,6 +73,23 @@ static POCKET_MAYBE_UNUSED void put64(u8 *at, u64 value) {
     put32(at + 4, (u32)(value >> 32));
 }
 #endif
+/* The head of a block: numbers of 32 bits, each so many bytes in front of it, and a pointer, to the caller's room for a packet during a
+ * send. The shape is the kind and the bits. It and `last`, on which all checks stand, are kept twice, once with each bit turned. */
+enum { STACK_AT = 4, FREE_AT = 8, SHAPE_AT = 12, SHAPE_TURNED_AT = 16, LAST_AT = 20, LAST_TURNED_AT = 24, BROKEN_AT = 28, ROOM_AT = 32, OUT_AT = 40,
+       HEAD_BYTES = 48 };
+
+static POCKET_MAYBE_UNUSED u32 head_of(const u8 *m, u32 at) {
+    return get32(m - at);
+}
+
+static POCKET_MAYBE_UNUSED void set_head(u8 *m, u32 at, u32 value) {
+    put32(m - at, value);
+}
+
+static POCKET_MAYBE_UNUSED void set_broken(u8 *m) {
+    set_head(m, BROKEN_AT, 1);
+}
+
 #define get8(at) (*(at))
 #define put8(at, value) (*(at) = (u8)(value))
 

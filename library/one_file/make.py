@@ -25,6 +25,7 @@ import translate
 
 SENDER = ["pocket_sender_open", "pocket_sender_reset", "pocket_send", "pocket_sent"]
 RECEIVER = ["pocket_receiver_open", "pocket_receiver_reset", "pocket_receive", "pocket_counts"]
+STATES = ["pocket_save", "pocket_load"]
 DESK = ["pocket_desk_open", "pocket_put", "pocket_word", "pocket_run", "pocket_get"]
 PROGRAM_STACK = 1 << 20
 BEGIN = "/* ==== The generated part begins here: made from the proved library's module by wasm2c and library/one_file. ==== */"
@@ -68,8 +69,8 @@ def version():
         return re.search(r'^const VERSION: &str = "pocket (.*)";$', file.read(), re.M)[1]
 
 
-def module_of(kept, exports, kit):
-    """The module with these calls, and its sum."""
+def module_of(kept, exports, kit, name="code", joins=True):
+    """The module with these calls."""
     tool = shutil.which("wasm2c")
     if not tool:
         sys.exit("library/one_file/make.py: the package wabt, which has wasm2c, is not there")
@@ -77,8 +78,8 @@ def module_of(kept, exports, kit):
         wasm, made = os.path.join(folder, "pocket.wasm"), os.path.join(folder, "pocket.c")
         module.make(kept, wasm, kit, exports, for_c=True)
         subprocess.run([tool, wasm, "-n", "pocket", "-o", made], check=True)
-        with open(wasm, "rb") as binary, open(made, encoding="utf-8") as text:
-            return translate.module_of(text.read()), zlib.crc32(binary.read())
+        with open(made, encoding="utf-8") as text:
+            return translate.module_of(text.read(), name, joins)
 
 
 def constants(code):
@@ -98,11 +99,12 @@ def joined(functions, guard=None):
     return f"#ifndef {guard}\n{text}#endif\n" if guard else text
 
 
-def generated(code):
-    """The functions of the calls: those of both, of a sender alone, and of a receiver alone."""
-    send, receive = code.reached(SENDER), code.reached(RECEIVER)
-    of = lambda names: [it for name, it in code.functions.items() if name in names]
-    return joined(of(send & receive)) + joined(of(send - receive), "POCKET_NO_SENDER") + joined(of(receive - send), "POCKET_NO_RECEIVER")
+def generated(code, states):
+    """The functions of the calls: those of both, of a sender alone, of a receiver alone, and of states, which reach the caller's memory too."""
+    send, receive, kept = code.reached(SENDER), code.reached(RECEIVER), states.reached(STATES)
+    of = lambda names, module=code: [it for name, it in module.functions.items() if name in names]
+    return (joined(of(send & receive)) + joined(of(send - receive), "POCKET_NO_SENDER") + joined(of(receive - send), "POCKET_NO_RECEIVER")
+            + f"{text_of('anywhere.c')}" + joined(of(kept, states), "POCKET_NO_STATES"))
 
 
 def quiet(text):
@@ -119,14 +121,18 @@ def check_stack(deepest):
 
 def calls(kept, kit):
     """The text of pocket.c."""
-    code, number = module_of(kept, SENDER + RECEIVER, kit)
-    check_stack(code.deepest(SENDER + RECEIVER))
-    numbers = {"STACK_TOP": f"{code.top}u", "HEAP_BASE": f"{code.heap}u", "CONSTANT_BYTES": len(code.data), "DEEPEST": code.deepest(SENDER + RECEIVER),
-               "STACK_BYTES": "POCKET_STACK_BYTES", "MODULE_SUM": f"0x{number:08X}u"}
+    code, states = module_of(kept, SENDER + RECEIVER, kit), module_of(kept, STATES, kit, "state", joins=False)
+    if states.top != code.top or code.data and (states.heap, states.data) != (code.heap, code.data):
+        sys.exit("library/one_file/make.py: the calls and the states have other constants")
+    text = generated(code, states)
+    deepest = max(code.deepest(SENDER + RECEIVER), states.deepest(STATES))
+    check_stack(deepest)
+    numbers = {"STACK_TOP": f"{code.top}u", "HEAP_BASE": f"{states.heap}u", "CONSTANT_BYTES": len(states.data), "DEEPEST": deepest,
+               "STACK_BYTES": "POCKET_STACK_BYTES", "MODULE_SUM": f"0x{zlib.crc32(text.encode()):08X}u"}
     before, after = text_of("calls.c").split("/* @generated@ */\n")
     named = "".join(f"#define {name} {value}\n" for name, value in numbers.items())
     head = text_of("head.c").replace("@VERSION@", version())
-    return f"{head}\n{named}\n{constants(code)}{text_of('machine.c')}\n{before}\n{quiet(generated(code))}\n{after}\n{text_of('state.c')}\n{checked()}"
+    return f"{head}\n{named}\n{constants(states)}{text_of('machine.c')}\n{before}\n{quiet(text)}\n{after}\n{text_of('state.c')}\n{checked()}"
 
 
 def keys_of_verbs():
@@ -164,7 +170,7 @@ def helps():
 
 def program(kept, kit):
     """The text of pocket-program.c."""
-    code, _ = module_of(kept, DESK, kit)
+    code = module_of(kept, DESK, kit)
     numbers = {"STACK_TOP": f"{code.top}u", "HEAP_BASE": f"{code.heap}u", "CONSTANT_BYTES": len(code.data), "STACK_BYTES": f"{PROGRAM_STACK}u",
                "VERSION": f'"{version()}"'}
     named = "".join(f"#define {name} {value}\n" for name, value in numbers.items())

@@ -1,7 +1,12 @@
-/* States, written by hand: what a handle holds as bytes, in one order on all machines. The head of a state has the magic, the version, the
- * kind, two zeros, the bits, and the sum of the module from which this file was made, since its addresses stand in what follows: the
- * handle and the heap of the generated part, and zlib's crc32 of all before. Numbers of the head and the sum have the big end first. */
-enum { STATE_HEAD = 16, STATE_HANDLE = 16, STATE_SUM = 4, STATE_VERSION = 1 };
+/* The calls of states, written by hand. A receiver's state is written into the caller's room by the proved calls, and read from it. A sender's is
+ * of this file alone: what its handle holds, as bytes in one order on all machines. Its head has the magic, the version 0, the kind, the bits,
+ * and the sum of the module from which this file was made, since its addresses stand in what follows: the handle and the heap of the generated
+ * part, and zlib's crc32 of all before. Numbers of the head and the sum have the big end first. */
+#ifndef POCKET_NO_STATES
+#define MOST_STATE 0x100000u
+
+#ifndef POCKET_NO_SENDER
+enum { STATE_HEAD = 14, STATE_HANDLE = 16, STATE_SUM = 4 };
 
 static u32 crc32_of(const u8 *bytes, size_t length) {
     static const u32 table[16] = {
@@ -36,48 +41,22 @@ static u32 get_big(const u8 *at) {
     return (u32)at[0] << 24 | (u32)at[1] << 16 | (u32)at[2] << 8 | at[3];
 }
 
-static void put_state_head(u8 *at, u32 kind, u32 bits) {
-    static const u8 magic[4] = { 'P', 'C', 'K', 'T' };
+static void put_state_head(u8 *at, u32 bits) {
+    static const u8 magic[6] = { 'P', 'C', 'K', 'T', 0, SENDER };
     memcpy(at, magic, sizeof magic);
-    put_big(at + 4, (u32)STATE_VERSION << 24 | kind << 16);
-    put_big(at + 8, bits);
-    put_big(at + 12, MODULE_SUM);
+    put_big(at + 6, bits);
+    put_big(at + 10, MODULE_SUM);
 }
 
-/* Whether a call of a handle of either kind can begin. */
-static u32 begun_of_any(const pocket_handle *handle) {
-    return begun(handle, handle->at == NULL ? (u32)SENDER : head_of(block_of(handle), KIND_AT));
+static size_t sender_state_bytes(u32 bits) {
+    return STATE_HEAD + STATE_HANDLE + heap_bytes(SENDER, bits) + STATE_SUM;
 }
 
-uint32_t pocket_bits(pocket_handle *handle, uint32_t *bits) {
-    const u32 status = begun_of_any(handle);
-    if (status == POCKET_DONE)
-        *bits = head_of(block_of(handle), BITS_AT);
-    return status;
-}
-
-static size_t state_bytes(const u8 *m) {
-    return STATE_HEAD + STATE_HANDLE + heap_bytes(head_of(m, KIND_AT), head_of(m, BITS_AT)) + STATE_SUM;
-}
-
-uint32_t pocket_state_size(pocket_handle *handle, size_t *size) {
-    const u32 status = begun_of_any(handle);
-    if (status == POCKET_DONE)
-        *size = state_bytes(block_of(handle));
-    return status;
-}
-
-uint32_t pocket_save(pocket_handle *handle, uint8_t *state, size_t room, size_t *length) {
-    const u32 status = begun_of_any(handle);
-    size_t bytes;
-    u8 *m;
-    if (status != POCKET_DONE)
-        return status;
-    m = block_of(handle);
-    bytes = state_bytes(m);
+static u32 sender_saved(const u8 *m, u8 *state, size_t room, size_t *length) {
+    const size_t bytes = sender_state_bytes(bits_of(m));
     if (room < bytes)
         return POCKET_NO_ROOM;
-    put_state_head(state, head_of(m, KIND_AT), head_of(m, BITS_AT));
+    put_state_head(state, bits_of(m));
     memcpy(state + STATE_HEAD, place(HANDLE), STATE_HANDLE);
     memcpy(state + STATE_HEAD + STATE_HANDLE, place(FIRST), bytes - STATE_HEAD - STATE_HANDLE - STATE_SUM);
     put_big(state + bytes - STATE_SUM, crc32_of(state, bytes - STATE_SUM));
@@ -85,22 +64,71 @@ uint32_t pocket_save(pocket_handle *handle, uint8_t *state, size_t room, size_t 
     return POCKET_DONE;
 }
 
-uint32_t pocket_load(pocket_handle *handle, const uint8_t *state, size_t length) {
-    const u32 status = begun_of_any(handle);
+static u32 sender_loaded(u8 *m, const u8 *state, size_t length) {
     u8 wanted[STATE_HEAD];
-    u8 *m;
-    if (status != POCKET_DONE)
-        return status;
-    m = block_of(handle);
-    put_state_head(wanted, head_of(m, KIND_AT), head_of(m, BITS_AT));
-    if (length < STATE_HEAD + STATE_HANDLE + STATE_SUM || !are_same(state, wanted, 5) || !are_same(state + 12, wanted + 12, 4) ||
+    put_state_head(wanted, bits_of(m));
+    if (length < STATE_HEAD + STATE_HANDLE + STATE_SUM || !are_same(state, wanted, 5) || !are_same(state + 10, wanted + 10, 4) ||
         get_big(state + length - STATE_SUM) != crc32_of(state, length - STATE_SUM))
         return POCKET_NO_STATE;
     if (!are_same(state, wanted, STATE_HEAD))
         return POCKET_OTHER_STATE;
-    if (length != state_bytes(m))
+    if (length != sender_state_bytes(bits_of(m)))
         return POCKET_NO_STATE;
     memcpy(place(HANDLE), state + STATE_HEAD, STATE_HANDLE);
     memcpy(place(FIRST), state + STATE_HEAD + STATE_HANDLE, length - STATE_HEAD - STATE_HANDLE - STATE_SUM);
     return POCKET_DONE;
 }
+#endif
+
+size_t pocket_state_bytes(uint32_t bits, uint32_t kind) {
+    if (bits == 0 || bits > POCKET_MOST_BITS)
+        return 0;
+#ifndef POCKET_NO_SENDER
+    if (kind == POCKET_OF_SENDER)
+        return sender_state_bytes(bits);
+#endif
+    return kind == POCKET_OF_RECEIVER ? POCKET_RECEIVER_STATE_BYTES(bits) : 0;
+}
+
+uint32_t pocket_save(pocket_handle *handle, uint8_t *state, size_t room, size_t *length) {
+    u32 status = begun_of_any(handle);
+    const u32 state_room = room > MOST_STATE ? MOST_STATE : (u32)room;
+    u8 *m;
+    if (status != POCKET_DONE)
+        return status;
+    m = block_of(handle);
+#ifndef POCKET_NO_SENDER
+    if (kind_of(m) == SENDER)
+        return sender_saved(m, state, room, length);
+#endif
+    set_out(m, state, state_room);
+    status = ended(m, state_pocket_save(m, head_of(m, LAST_AT), HANDLE, OUTSIDE, state_room, TOLD));
+    set_out(m, NULL, 0);
+    if (status != POCKET_DONE)
+        return status;
+    if (get64(place(TOLD)) > state_room) {
+        set_broken(m);
+        return POCKET_BROKEN;
+    }
+    *length = (size_t)get64(place(TOLD));
+    return POCKET_DONE;
+}
+
+/* No state of a receiver is as long as MOST_STATE: of more bytes the first are read, which are none. They are read only. */
+uint32_t pocket_load(pocket_handle *handle, const uint8_t *state, size_t length) {
+    const u32 bytes = length > MOST_STATE ? MOST_STATE : (u32)length;
+    u32 status = begun_of_any(handle);
+    u8 *m;
+    if (status != POCKET_DONE)
+        return status;
+    m = block_of(handle);
+#ifndef POCKET_NO_SENDER
+    if (kind_of(m) == SENDER)
+        return sender_loaded(m, state, length);
+#endif
+    set_out(m, (u8 *)state, bytes);
+    status = ended(m, state_pocket_load(m, head_of(m, LAST_AT), HANDLE, OUTSIDE, bytes));
+    set_out(m, NULL, 0);
+    return status;
+}
+#endif

@@ -5,7 +5,7 @@ wasm2c (Debian's package wabt) writes one statement a line. Its statements stay 
 - an access to the memory, a filling, a copy, a division, and what cannot be reached end the function by `goto trap` if they are wrong;
 - a call that was ended so ends its caller;
 - a function that takes a frame of the stack is asked once whether it fits;
-- accesses that are made together are checked together (joined.py).
+- accesses that are made together are checked together (joined.py), but for a module whose accesses may lie in the caller's memory too.
 
 A line of any other form is an error, so another wabt is not taken by chance. No function calls itself, so the deepest stack is known: the
 largest sum of frames on a way of calls.
@@ -62,12 +62,13 @@ class Function:
     name: str
     result: str
     parameters: str
+    module: str
     text: str = ""
     frame: int = 0
     calls: set = field(default_factory=set)
 
     def head(self):
-        return f"static {self.result} code_{self.name}(uint8_t *const m, const u32 last{self.parameters})"
+        return f"static {self.result} {self.module}_{self.name}(uint8_t *const m, const u32 last{self.parameters})"
 
 
 @dataclass
@@ -121,7 +122,7 @@ def made(function, line):
         return f"call(heap_{found[1]}(m, last{found[2]}));"
     if found := CALL.match(line):
         function.calls.add(found[2])
-        return f"call({found[1] + ' = ' if found[1] else ''}code_{found[2]}(m, last{found[3]}));"
+        return f"call({found[1] + ' = ' if found[1] else ''}{function.module}_{found[2]}(m, last{found[3]}));"
     if found := TURN.match(line):
         return f"{found[1]} = {found[2]}({found[3]});"
     if found := DIVISION.match(line):
@@ -156,7 +157,7 @@ def frame_of(function, text):
     return ENTRY.sub(f"  @{word}({entry[2]}, {entry[1]});\n  w2c_j0 = {entry[2]};\n", text)
 
 
-def filled(function, text):
+def filled(function, text, joins):
     """Makes the text of a function from what wasm2c wrote between its braces."""
     locals_, lines = [], []
     for line in frame_of(function, text).split("\n"):
@@ -168,22 +169,22 @@ def filled(function, text):
             lines.append(depth + short(text[1:] if text.startswith("@") else made(function, text)))
     last = "  return;" if function.result == "void" else "  return 0;"
     end = ["  return;"] if function.result == "void" else []
-    text = "\n".join([*locals_, *joined.of(lines), *end, "  trap:", "  set_broken(m);", last])
+    text = "\n".join([*locals_, *(joined.of(lines) if joins else lines), *end, "  trap:", "  set_broken(m);", last])
     function.text = f"{function.head()} {{\n{text}\n}}\n"
 
 
-def functions_of(text):
+def functions_of(text, name, joins):
     """The functions of a module, by name."""
     found = {}
     for head in HEAD.finditer(text):
-        function = Function(head[2], head[1], short(head[3]))
-        filled(function, text[head.end() + 1:text.index("\n}\n", head.end())])
+        function = Function(head[2], head[1], short(head[3]), name)
+        filled(function, text[head.end() + 1:text.index("\n}\n", head.end())], joins)
         found[function.name] = function
     return found
 
 
-def module_of(text):
-    """What a module is, from the text that wasm2c wrote."""
+def module_of(text, name, joins):
+    """What a module is, from the text that wasm2c wrote: with this name before those of its functions."""
     text = re.sub(r", \n +", ", ", text)
     numbers = dict(re.findall(r"^  instance->w2c_(g0|__heap_base) = (\d+)ull;$", text, re.M))
     if len(numbers) != 2 or "CALL_INDIRECT(instance" in text:
@@ -194,4 +195,4 @@ def module_of(text):
     top, heap = int(numbers["g0"]), int(numbers["__heap_base"])
     if len(data) != len(loaded) or len(data) > 1 or [int(it) for it, _ in loaded] not in ([], [top]):
         raise OtherForm("the module has other data")
-    return Module(functions_of(text), top, heap, b"".join(data))
+    return Module(functions_of(text, name, joins), top, heap, b"".join(data))

@@ -1,6 +1,6 @@
 /* Both ends of a link, driven by lines of standard input: what each call gives is printed, so that the output of two processors can be
  * compared. One source is compiled for each processor; with -DPOCKET_DESK it has the calls of a desk in memory too, with
- * -DPOCKET_ONE_FILE those of the one file: it opens in memory of its own, and saves.
+ * -DPOCKET_ONE_FILE it opens in memory of its own, as the one file does; with -DPOCKET_BARE it takes no C library.
  *
  *   open BITS MASK               opens a sender and a receiver; the mask in hexadecimal, or - for none
  *   send FLAGS ROBUST ON INPUT   sends an input, flags 1 new mask, 2 send mask, 4 whole content; then, by ON, the packet is lost (0), is
@@ -10,14 +10,19 @@
  *   close                        tells the counts, the packets sent and the bits, and closes both
  *   desk, end                    opens a desk, and closes it
  *   put NAME BYTES, word WORD, run, get NAME
+ *   state                        prints the state of the receiver
  *   save                         prints the states of the sender and the receiver
  *   resume SENT SENDER RECEIVER  loads states, after so many packets were sent
  */
 #include <stdbool.h>
 #include <stdint.h>
+#ifdef POCKET_BARE
+#include "bare.h"
+#else
 #include <stdio.h>
 #include <stdlib.h>
 #include <string.h>
+#endif
 
 struct handle { void *at; size_t state; };
 struct finding { uint64_t number, first_lost, lost; uint32_t kind, value; bool mask_alone; };
@@ -33,6 +38,8 @@ uint32_t pocket_receive(struct handle *, uint16_t count, const uint8_t *bytes, s
 uint32_t pocket_counts(struct handle *, struct counts *);
 uint32_t pocket_sent(struct handle *, uint64_t *packets);
 uint32_t pocket_bits(struct handle *, uint32_t *bits);
+uint32_t pocket_save(struct handle *, uint8_t *state, size_t room, size_t *len);
+uint32_t pocket_load(struct handle *, const uint8_t *state, size_t len);
 uint32_t pocket_close(struct handle *);
 #ifdef POCKET_DESK
 uint32_t pocket_desk_open(struct handle *);
@@ -45,8 +52,6 @@ uint32_t pocket_get(struct handle *, const uint8_t *name, size_t name_len, uint8
 #ifdef POCKET_ONE_FILE
 uint32_t pocket_sender_open_in(struct handle *, void *memory, size_t size, uint32_t bits, const uint8_t *mask, size_t mask_len);
 uint32_t pocket_receiver_open_in(struct handle *, void *memory, size_t size, uint32_t bits);
-uint32_t pocket_save(struct handle *, uint8_t *state, size_t room, size_t *len);
-uint32_t pocket_load(struct handle *, const uint8_t *state, size_t len);
 #endif
 
 #ifndef DRIVER_ROOM
@@ -92,12 +97,28 @@ static uint32_t open_sender(size_t mask_len) {
 static uint32_t open_receiver(void) {
     return pocket_receiver_open_in(&receiver, memory[1], sizeof *memory, bits);
 }
+#else
+static uint32_t open_sender(size_t mask_len) {
+    return pocket_sender_open(&sender, bits, in, mask_len);
+}
+
+static uint32_t open_receiver(void) {
+    return pocket_receiver_open(&receiver, bits);
+}
+#endif
 
 static void save(void) {
     size_t len = 0;
     printf("saved %u", pocket_save(&sender, data, sizeof data, &len));
     show("sender", data, len);
     printf(" %u", pocket_save(&receiver, data, sizeof data, &len));
+    show("receiver", data, len);
+    printf("\n");
+}
+
+static void tell_state(void) {
+    size_t len = 0;
+    printf("state %u", pocket_save(&receiver, data, sizeof data, &len));
     show("receiver", data, len);
     printf("\n");
 }
@@ -109,22 +130,6 @@ static void resume(const char *count, const char *of_sender, const char *of_rece
     len = bytes_of(of_receiver);
     printf(" %u\n", pocket_load(&receiver, in, len));
 }
-#else
-static uint32_t open_sender(size_t mask_len) {
-    return pocket_sender_open(&sender, bits, in, mask_len);
-}
-
-static uint32_t open_receiver(void) {
-    return pocket_receiver_open(&receiver, bits);
-}
-
-static void save(void) {
-}
-
-static void resume(const char *count, const char *of_sender, const char *of_receiver) {
-    (void)count, (void)of_sender, (void)of_receiver;
-}
-#endif
 
 static void open_both(const char *mask) {
     size_t len = bytes_of(mask);
@@ -269,6 +274,8 @@ int main(void) {
             close_both();
         else if (!strcmp(verb, "save"))
             save();
+        else if (!strcmp(verb, "state"))
+            tell_state();
         else if (!strcmp(verb, "resume")) {
             char *count = next_word(&from), *of_sender = next_word(&from);
             resume(count, of_sender, next_word(&from));

@@ -1,4 +1,4 @@
-/* The one file's own: memory of the caller for every number of bits, the depth of the stack, states, and a block that was damaged. It takes
+/* The one file's own: memory of the caller for every number of bits, the depth of the stack, states of senders, and a block that was damaged. It takes
  * the file in whole, so that it sees what lies in a block. Its word, `all`, or `some` for valgrind, says for how many numbers of bits. */
 #include "pocket.c"
 #include <stdio.h>
@@ -9,7 +9,6 @@
 #define pocket_send pocket_checked_send
 #define pocket_receiver_open_in pocket_checked_receiver_open_in
 #define pocket_receive pocket_checked_receive
-#define pocket_state_size pocket_checked_state_size
 #define pocket_save pocket_checked_save
 #define pocket_load pocket_checked_load
 #define pocket_close pocket_checked_close
@@ -17,8 +16,8 @@
 enum { MARK = 0xA5, BITS = 100, PACKETS = 60, PAINT = 0xC3 };
 static unsigned long passed, failed;
 static uint8_t sender_memory[POCKET_SENDER_BYTES(POCKET_MOST_BITS) + 16], receiver_memory[POCKET_RECEIVER_BYTES(POCKET_MOST_BITS) + 16];
-static uint8_t other_memory[POCKET_SENDER_BYTES(BITS)], data[POCKET_MOST_DATA], content[POCKET_INPUT_BYTES(POCKET_MOST_BITS)];
-static uint8_t input[POCKET_INPUT_BYTES(POCKET_MOST_BITS)], states[2][POCKET_SENDER_BYTES(BITS)];
+static uint8_t other_memory[POCKET_SENDER_BYTES(BITS)], states[2][POCKET_SENDER_BYTES(BITS)], data[POCKET_MOST_DATA], content[POCKET_INPUT_BYTES(POCKET_MOST_BITS)];
+static uint8_t input[POCKET_INPUT_BYTES(POCKET_MOST_BITS)], state[POCKET_SENDER_STATE_BYTES(POCKET_MOST_BITS)];
 
 static void check(bool held, const char *what, unsigned long bits)
 {
@@ -35,6 +34,13 @@ static void opens(uint32_t bits)
     check(of_sender == POCKET_SENDER_BYTES(bits) && of_receiver == POCKET_RECEIVER_BYTES(bits), "the macros tell other bytes", bits);
     sender_memory[by - 1] = sender_memory[by + of_sender] = receiver_memory[by - 1] = receiver_memory[by + of_receiver] = MARK;
     check(pocket_sender_open_in(&sender, sender_memory + by, of_sender - 1, bits, NULL, 0) == POCKET_NO_MEMORY, "a byte less for a sender", bits);
+    memset(input, 0, sizeof input);
+    check(pocket_sender_open_in(&sender, sender_memory, 0, bits, input, POCKET_INPUT_BYTES(bits)) == POCKET_NO_MEMORY, "no memory and a mask", bits);
+    check(pocket_sender_open_in(&sender, sender_memory, 0, bits, input, POCKET_INPUT_BYTES(bits) + 1) == POCKET_MASK_LENGTH, "no memory and a longer mask", bits);
+    input[POCKET_INPUT_BYTES(bits) - 1] = 1;
+    check(pocket_sender_open_in(&sender, sender_memory, 0, bits, input, POCKET_INPUT_BYTES(bits)) == (bits % 8 ? POCKET_MASK_SPARE_BIT : POCKET_NO_MEMORY),
+          "no memory and a spare bit", bits);
+    input[POCKET_INPUT_BYTES(bits) - 1] = 0;
     check(pocket_receiver_open_in(&receiver, receiver_memory + by, of_receiver - 1, bits) == POCKET_NO_MEMORY, "a byte less for a receiver", bits);
     check(pocket_sender_open_in(&sender, sender_memory + by, of_sender, bits, NULL, 0) == POCKET_DONE, "a sender is not opened", bits);
     check(pocket_receiver_open_in(&receiver, receiver_memory + by, of_receiver, bits) == POCKET_DONE, "a receiver is not opened", bits);
@@ -90,6 +96,8 @@ static u32 deepest(uint32_t bits)
                           sizeof data, &length, &level) == POCKET_DONE, "a send", bits);
         if (number % 4 != 1)
             check(pocket_receive(&receiver, (uint16_t)number, data, length, content, sizeof content, &finding) == POCKET_DONE, "a receive", bits);
+        check(pocket_save(&sender, state, sizeof state, &length) == POCKET_DONE && pocket_load(&sender, state, length) == POCKET_DONE &&
+              pocket_save(&receiver, state, sizeof state, &length) == POCKET_DONE && pocket_load(&receiver, state, length) == POCKET_DONE, "states", bits);
         found = depth(&sender) > found ? depth(&sender) : found;
         found = depth(&receiver) > found ? depth(&receiver) : found;
     }
@@ -113,11 +121,12 @@ static u32 deepest_opening(void)
     return STACK_BYTES - at;
 }
 
-static size_t saved(pocket_handle *handle, uint8_t *state)
+/* The state of a sender, which has as many bytes as is told. */
+static size_t saved(pocket_handle *handle, uint8_t *to)
 {
-    size_t size = 0, length = 0;
-    check(pocket_state_size(handle, &size) == POCKET_DONE && pocket_save(handle, state, size, &length) == POCKET_DONE && length == size,
-          "a state is not saved", BITS);
+    size_t length = 0;
+    check(pocket_save(handle, to, pocket_state_bytes(BITS, POCKET_OF_SENDER), &length) == POCKET_DONE && length == pocket_state_bytes(BITS, POCKET_OF_SENDER) &&
+          length == POCKET_SENDER_STATE_BYTES(BITS), "a state is not saved", BITS);
     return length;
 }
 
@@ -178,18 +187,18 @@ static void refuses(void)
         check(pocket_load(&one, states[0], length) == POCKET_NO_STATE, "a damaged state", BITS);
         states[0][cut] ^= (uint8_t)(1u << cut % 8);
     }
-    states[0][4] = STATE_VERSION + 1;
+    states[0][4] = 2;
     sum_anew(states[0], length);
     check(pocket_load(&one, states[0], length) == POCKET_NO_STATE, "a state of another version", BITS);
-    states[0][4] = STATE_VERSION;
-    states[0][13] ^= 1;
+    states[0][4] = 0;
+    states[0][12] ^= 1;
     sum_anew(states[0], length);
     check(pocket_load(&one, states[0], length) == POCKET_NO_STATE, "a state of another module", BITS);
-    states[0][13] ^= 1;
+    states[0][12] ^= 1;
     sum_anew(states[0], length);
     check(pocket_load(&none, states[0], length) == POCKET_IS_CLOSED, "a state for a closed handle", BITS);
     pocket_receiver_open_in(&other, receiver_memory, sizeof receiver_memory, BITS);
-    check(pocket_load(&other, states[0], length) == POCKET_OTHER_STATE, "a sender's state for a receiver", BITS);
+    check(pocket_load(&other, states[0], length) == POCKET_NO_STATE, "a sender's state for a receiver", BITS);
     pocket_close(&other);
     pocket_sender_open_in(&other, sender_memory, sizeof sender_memory, BITS + 1, NULL, 0);
     check(pocket_load(&other, states[0], length) == POCKET_OTHER_STATE, "a state of other bits", BITS);
@@ -210,14 +219,16 @@ static void breaks(u32 address)
     const size_t bytes = pocket_sender_bytes(BITS);
     sender_memory[bytes] = MARK;
     pocket_sender_open_in(&sender, sender_memory, bytes, BITS, NULL, 0);
-    sent(&sender, 0, 3);
+    memset(input, 0, sizeof input);
+    check(pocket_send(&sender, input, POCKET_INPUT_BYTES(BITS), false, false, false, 1, data, sizeof data, &length, &level) == POCKET_DONE, "a send", address);
+    length = 0, level = MARK;
     put64(block_of(&sender) + (HANDLE - BASE), address);
     check(pocket_send(&sender, input, POCKET_INPUT_BYTES(BITS), false, false, false, 1, data, sizeof data, &length, &level) == POCKET_BROKEN,
           "a damaged block is not seen", address);
     check(length == 0 && level == MARK && sender_memory[bytes] == MARK, "a damaged block writes", address);
     check(pocket_send(&sender, input, POCKET_INPUT_BYTES(BITS), false, false, false, 1, data, sizeof data, &length, &level) == POCKET_BROKEN,
           "a broken sender sends", address);
-    check(pocket_save(&sender, states[0], sizeof states[0], &length) == POCKET_BROKEN, "a broken sender is saved", address);
+    check(pocket_save(&sender, state, sizeof state, &length) == POCKET_BROKEN, "a broken sender is saved", address);
     check(pocket_checked_counts(&sender, &tally) == POCKET_BROKEN, "a broken sender has counts", address);
     check(pocket_checked_sent(&sender, &next) == POCKET_BROKEN && pocket_checked_bits(&sender, &bits) == POCKET_BROKEN && next == 5 && bits == 5,
           "a broken sender tells its number or bits", address);
