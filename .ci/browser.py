@@ -1,17 +1,18 @@
 #!/usr/bin/env python3
-"""Builds the operator's page, and tries it in Debian's Chromium, without a window.
+"""Builds the operator's page, and tries it in Debian's browsers, without a window: Chromium, Firefox, and WebKitGTK, of Safari's family.
 
 At the top, after the gate's proofs: .ci/browser.py. It makes the page (`make page`), and a second one that has its tests (page/tests) and
 what the program crates/pocket/out/pocket does with the commands of .ci/browser_cases.py: each command byte for byte, and what the page says
 of itself. Then keys are pressed in the page as it ships, what it says of the packet under them is held to the program's forecast, and its
 picture is taken. It is given files and hands (.ci/browser_ways.py) and looked at in windows of several sizes (.ci/browser_looks.py), and
-Debian's eslint reads its scripts. If Chromium, wasm-opt or eslint is not there and can't be had from Debian's packages (as root), what needs
-it is skipped, by name. Its last line is 'N passed, M failed', or 'N passed, M failed, K skipped'.
+Debian's eslint reads its scripts. A browser, wasm-opt or eslint that is not there and can't be had from Debian's packages (as root), is
+skipped with what needs it, by name; and so is what a browser can't be told (CAN_NOT). Its last line is 'N passed, M failed', or 'N passed,
+M failed, K skipped'.
 
-.ci/browser.py MACHINE takes another file for page/worker/machine.js, to see that the tests fail.
+.ci/browser.py BROWSER .. tries these browsers alone. MACHINE=FILE in the environment takes another file for page/worker/machine.js, to see
+that the tests fail.
 """
 
-import base64
 import json
 import os
 import re
@@ -19,14 +20,13 @@ import shutil
 import subprocess
 import sys
 import tempfile
-import zlib
 
 sys.dont_write_bytecode = True
 import browser_cases
 import browser_files
 import browser_looks
 import browser_ways
-from chromium import Browser
+from webdriver import NEEDS, Browser
 
 TOP = os.path.dirname(os.path.dirname(os.path.abspath(__file__)))
 sys.path.append(f"{TOP}/page")
@@ -34,17 +34,22 @@ import make
 
 PROGRAM = f"{TOP}/crates/pocket/out/pocket"
 PAGE, MODULE = f"{TOP}/page/pocket.html", f"{TOP}/page/out/pocket.wasm"
-PACKAGES = {"chromium": "chromium", "wasm-opt": "binaryen", "eslint": "eslint"}
+PACKAGES = {"wasm-opt": "binaryen", "eslint": "eslint"}
 LIMIT = 600  # seconds for all tests of the page
-MOST_BYTES = 800_000
+MOST_BYTES, LEAST_PICTURE = 800_000, 40_000
 CLOSING = re.compile(r"^(\d+) passed, (\d+) failed$", re.M)
-PARTS = ["the page is built", "the page's own tests", "the page as it ships", "its picture"]
+BUILD, OWN = "the page is built", "the page's own tests"
+# What a driver can't do with its browser.
+CAN_NOT = {"firefox": {"fingers": "its driver's fingers scroll nothing", "paper and forced colours": "its driver sets neither"},
+           "webkit": {"the wheel": "its driver turns no wheel", "fingers": "its driver has no fingers", "files that are saved": "it asks where",
+                      "paper and forced colours": "its driver sets neither"}}
 WAYS = [
+    ("the page as it ships", lambda browser, *_: tell_shipped(browser)), ("its picture", lambda browser, *_: tell_picture(browser)),
     ("the wheel", browser_ways.tell_wheel), ("fingers", browser_ways.tell_fingers), ("a drag", browser_ways.tell_drag),
     ("a store of a million packets", browser_ways.tell_million), ("forty fields of 100,000 packets", browser_ways.tell_fields),
     ("typing in 10,000 rows", browser_ways.tell_typing), ("a gigabyte that is no store", browser_ways.tell_no_store),
     ("cancel, and a file that is gone", browser_ways.tell_cancel), ("a module that can't start", browser_ways.tell_start),
-    ("sizes of a window", browser_looks.tell_sizes), ("names, roles and contrast", browser_looks.tell_names),
+    ("sizes of a window", browser_looks.tell_sizes), ("the answers first", browser_looks.tell_answers), ("paper and forced colours", browser_looks.tell_media), ("names, roles and contrast", browser_looks.tell_names),
     ("files that are saved", browser_looks.tell_saved), ("its policy", browser_looks.tell_policy),
 ]
 LINT = "its scripts, read by eslint"
@@ -52,13 +57,9 @@ LINT = "its scripts, read by eslint"
 NODE_PATH = "/usr/share/nodejs:/usr/lib/nodejs"
 
 
-def missing():
-    """The packages that are not there, after they were asked for."""
-    found = lambda: [package for name, package in PACKAGES.items() if not shutil.which(name)]
-    if found() and os.geteuid() == 0 and shutil.which("apt-get"):
-        for words in (["update", "-q"], *(["install", "-q", "-y", "--no-install-recommends", package] for package in [*found(), "fonts-dejavu-core"])):
-            subprocess.run(["apt-get", *words], stdout=subprocess.DEVNULL, stderr=subprocess.DEVNULL, timeout=900)
-    return found()
+def missing(packages):
+    """The packages of some commands that are not there (.ci/needs.py)."""
+    return [package for name, package in packages.items() if not shutil.which(name)]
 
 
 def lint():
@@ -68,7 +69,7 @@ def lint():
     return (done.stdout + done.stderr)[-1500:] or f"it ends with {done.returncode}" if done.returncode else None
 
 
-def build(folder, machine):
+def build(folder):
     """The page as it ships, and the one with the cases in a folder."""
     made = subprocess.run(["make", "-s", "page"], cwd=TOP, capture_output=True, text=True)
     if made.returncode:
@@ -76,6 +77,7 @@ def build(folder, machine):
     found, cases = os.path.join(folder, "tests.html"), os.path.join(folder, "cases.json")
     with open(cases, "w", encoding="ascii") as file:
         json.dump(browser_cases.cases(PROGRAM), file)
+    machine = os.environ.get("MACHINE")
     place = f"{TOP}/page" if not machine else shutil.copytree(f"{TOP}/page", os.path.join(folder, "top", "page"))
     if machine:
         os.makedirs(os.path.join(folder, "top", "crates", "pocket", "src"))
@@ -106,7 +108,6 @@ def tell_shipped(browser):
     """What is wrong with the page as it ships, or None: what it says under the keys and in its foot, and what it asks for."""
     if os.path.getsize(PAGE) > MOST_BYTES:
         return f"it has {os.path.getsize(PAGE)} bytes"
-    browser.requests.clear()
     address = "#packets=30&robust=1&plan=20,20,1,fr&script=drop,3,3,1%0Adrop,10,13,1"
     browser.open(f"file://{PAGE}{address}")
     said = "document.getElementById('forecast-strip')?.getAttribute('aria-valuetext')"
@@ -126,35 +127,21 @@ def tell_shipped(browser):
     foot = browser.value("document.querySelector('footer').innerText")
     if not refused or not all(words in foot for words in (make.version(), "compared", "not proved")):
         return f"a request is refused: {refused}; its foot says {foot!r}"
-    asked = {url for url in browser.requests if not url.startswith(("about:", "data:", "blob:", f"file://{PAGE}"))}
-    return f"it asked for {sorted(asked)}" if asked else None
-
-
-def pixels(png):
-    """The rows of a picture, as it was written, unfiltered enough to see whether it is empty."""
-    place, packed = 8, b""
-    while place < len(png):
-        size = int.from_bytes(png[place:place + 4], "big")
-        if png[place + 4:place + 8] == b"IDAT":
-            packed += png[place + 8:place + 8 + size]
-        place += 12 + size
-    return int.from_bytes(png[16:20], "big"), int.from_bytes(png[20:24], "big"), zlib.decompress(packed)
+    asked = browser.value("performance.getEntriesByType('resource').map(it => it.name).filter(it => !/^(data|blob):/.test(it))")
+    return f"it asked for {asked}" if asked else None
 
 
 def tell_picture(browser):
-    """What is wrong with the pictures in light and dark, or None: their size, and that they show something, each something else."""
+    """What is wrong with the pictures in light and dark, or None: that they show something, each something else."""
     seen = []
     for light in ("light", "dark"):
-        browser.ask("Emulation.setEmulatedMedia", features=[{"name": "prefers-color-scheme", "value": light}])
-        browser.value("new Promise(done => requestAnimationFrame(() => requestAnimationFrame(() => done(1))))")
-        png = base64.b64decode(browser.ask("Page.captureScreenshot", format="png")["data"])
-        with open(f"{TOP}/page/out/{light}.png", "wb") as file:
+        is_told, png = browser.light(light), browser.picture()
+        with open(f"{TOP}/page/out/{browser.name}-{light}.png", "wb") as file:
             file.write(png)
-        width, height, drawn = pixels(png)
-        if width < 1000 or height < 800 or len(set(drawn)) < 20:
-            return f"the {light} one has {width} by {height} pixels, of {len(set(drawn))} values"
-        seen.append(drawn)
-    return "light and dark look the same" if seen[0] == seen[1] else None
+        if len(png) < LEAST_PICTURE:
+            return f"the {light} one has {len(png)} bytes"
+        seen.append(png)
+    return "light and dark look the same" if is_told and seen[0] == seen[1] else None
 
 
 class Tally:
@@ -168,11 +155,11 @@ class Tally:
         if fault is not None:
             print(f"browser: {name}: {fault}", flush=True)
 
-    def skip(self, names, package):
-        """Tells that what needs a package is skipped."""
+    def skip(self, names, why):
+        """Tells what is skipped."""
         self.skipped += len(names)
         for name in names:
-            print(f"browser: skipped: {name}: {package} is not there", flush=True)
+            print(f"browser: skipped: {name}: {why}", flush=True)
 
     def attempt(self, name, step, *given):
         """Tells what a step finds wrong, or that it raised an error."""
@@ -181,45 +168,53 @@ class Tally:
         except (RuntimeError, OSError, ValueError, subprocess.SubprocessError) as error:
             self.tell(name, f"it raised {error}")
 
-    def add(self, passed, failed, lines):
+    def add(self, name, passed, failed, lines):
         """Adds what the page's own tests told."""
         self.passed, self.failed = self.passed + passed, self.failed + failed
         for line in lines:
-            print(f"browser: {line}", flush=True)
+            print(f"browser: {name}: {line}", flush=True)
 
 
-def try_all(folder, machine, tally):
-    """Builds the page, and tries it."""
-    made = []
-    tally.attempt(PARTS[0], lambda: made.append(build(folder, machine)))
-    if not made:
-        return
-    browser = Browser(shutil.which("chromium"))
+def try_browser(name, own, files, tally):
+    """Tries the page in a browser."""
+    browser = Browser(name)
     try:
-        tally.attempt(PARTS[1], lambda: tally.add(*run_own(browser, made[0])))
-        tally.attempt(PARTS[2], tell_shipped, browser)
-        tally.attempt(PARTS[3], tell_picture, browser)
-        files = browser_files.files(PROGRAM, folder)
-        for name, way in WAYS:
-            tally.attempt(name, way, browser, PAGE, files)
+        tally.attempt(f"{name}: {OWN}", lambda: tally.add(name, *run_own(browser, own)))
+        for way, tell in WAYS:
+            why = CAN_NOT.get(name, {}).get(way)
+            if why:
+                tally.skip([f"{name}: {way}"], why)
+            else:
+                tally.attempt(f"{name}: {way}", tell, browser, PAGE, files)
     finally:
         browser.close()
 
 
+def try_all(folder, names, tally):
+    """Builds the page, and tries it in each browser that is there."""
+    made = []
+    tally.attempt(BUILD, lambda: made.append(build(folder)))
+    files = browser_files.files(PROGRAM, folder) if made else None
+    for name in names if made else []:
+        lacks = missing(NEEDS[name])
+        if lacks:
+            tally.skip([f"{name}: {it}" for it in (OWN, *(way for way, _ in WAYS))], f"Debian's {', '.join(lacks)} is not there")
+        else:
+            tally.attempt(f"{name} begins", try_browser, name, made[0], files, tally)
+
+
 def main():
-    if len(sys.argv) > 2:
+    names = sys.argv[1:] or list(NEEDS)
+    if not set(names) <= set(NEEDS):
         sys.exit(__doc__)
-    lacks, tally = missing(), Tally()
-    if {"chromium", "binaryen"} & set(lacks):
-        tally.skip([*PARTS, *(name for name, _ in WAYS)], "Debian's chromium or binaryen")
+    lacks, tally = missing(PACKAGES), Tally()
+    if "binaryen" in lacks:
+        tally.skip([BUILD, *names], "Debian's binaryen is not there")
     else:
         with tempfile.TemporaryDirectory(prefix="pocket-browser-") as folder:
-            try:
-                try_all(folder, sys.argv[1] if sys.argv[1:] else None, tally)
-            except (RuntimeError, OSError) as error:
-                tally.tell("the browser", f"it raised {error}")
+            try_all(folder, names, tally)
     if "eslint" in lacks:
-        tally.skip([LINT], "Debian's eslint")
+        tally.skip([LINT], "Debian's eslint is not there")
     else:
         tally.attempt(LINT, lint)
     print(f"{tally.passed} passed, {tally.failed} failed" + (f", {tally.skipped} skipped" if tally.skipped else ""))

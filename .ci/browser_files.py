@@ -50,10 +50,8 @@ def kept_of(program, folder):
     forecast = ran(program, "forecast out=y packets=60 robust=2 plan=p script=s".split(), {"p": texts["plan"], "s": texts["script"]})[2]["y"]
     table = ran(program, "table in=r out=t report=o fields=f bits=64".split(), {"r": sample("hk.rec"), "f": texts["fields"]})[2]
     wanted = {"schedule.csv": texts["plan"], "losses.csv": texts["script"], "fields.csv": texts["fields"], "forecast.csv": forecast, "table.csv": table["t"], "limits.csv": table["o"]}
-    saved = os.path.join(folder, "saved")
-    os.makedirs(saved)
     paths = {name: put(folder, f"{name}.csv", content) for name, content in texts.items()}
-    return {**paths, "recording": put(folder, "hk.rec", sample("hk.rec")), "saved": saved, "wanted": wanted}
+    return {**paths, "recording": put(folder, "hk.rec", sample("hk.rec")), "wanted": wanted}
 
 
 def files(program, folder):

@@ -2,7 +2,7 @@
 
 import os
 
-from browser_ways import begin, click, give
+from browser_ways import begin, click, give, text
 
 VIEWS = ["forecast", "store", "streams", "fields"]
 SIZES = [(320, 640), (390, 844), (800, 900), (1280, 800), (1920, 1080)]
@@ -18,7 +18,7 @@ PLACES = """(view => [view.querySelector('.inputs'), view.querySelector('.main')
 TOPS = "new Set([...document.querySelectorAll('[role=tab]')].map(it => it.getBoundingClientRect().top)).size"
 # The names of the buttons that are seen, and the parts with a label and no role.
 NAMES = """[...document.querySelectorAll('button, label.button')].filter(it => it.offsetParent).map(it => (it.control ?? it).getAttribute('aria-label') || it.textContent.trim())"""
-NO_ROLE = """[...document.querySelectorAll('[aria-label]')].filter(it => !it.hasAttribute('role') && !['INPUT', 'BUTTON', 'TEXTAREA', 'SELECT', 'SECTION'].includes(it.tagName)).map(it => it.outerHTML.slice(0, 80))"""
+NO_ROLE = """[...document.querySelectorAll('[aria-label]')].filter(it => !it.hasAttribute('role') && !['INPUT', 'BUTTON', 'TEXTAREA', 'SELECT', 'SECTION', 'TABLE'].includes(it.tagName)).map(it => it.outerHTML.slice(0, 80))"""
 # The texts that are seen with less contrast than 4.5, each by its beginning.
 FAINT = """(() => {
     const numbers = text => (text.match(/[0-9.]+/g) ?? []).map(Number);
@@ -47,7 +47,7 @@ def with_examples(browser, page):
     for view, example in EXAMPLES.items():
         click(browser, f"tab-{view}")
         click(browser, example)
-        if not browser.wait(f"/given back|with 5 fields/.test(document.getElementById('{view}-sum').textContent)", 60):
+        if not browser.wait(f"/restored|with 5 fields/.test(document.getElementById('{view}-sum').textContent)", 60):
             raise RuntimeError(f"the example of {view} did not come")
 
 
@@ -69,6 +69,7 @@ def tell_sizes(browser, page, _):
     with_examples(browser, page)
     for width, height in SIZES:
         browser.size(width, height)
+        width = browser.value("innerWidth")  # (a browser may have a least one)
         if width >= 390 and browser.value(TOPS) != 1:
             return f"at {width} the tabs are on {browser.value(TOPS)} lines"
         for view in VIEWS:
@@ -77,6 +78,11 @@ def tell_sizes(browser, page, _):
             fault = misplaced(browser, view, width)
             if fault:
                 return f"{view} at {width}: {fault}"
+            browser.value("document.documentElement.style.fontSize = '200%'")
+            wide = browser.value(TOO_WIDE) if width > 800 else ""
+            browser.value("document.documentElement.style.fontSize = ''")
+            if wide:
+                return f"{view} at {width}, with a font twice as large: {wide} is too wide"
     return None
 
 
@@ -100,10 +106,51 @@ def tell_names(browser, page, _):
     return None if found == [False, True] else f"a text and a file that are dragged are taken: {found}"
 
 
+def tell_media(browser, page, _):
+    """On paper the bits and the APID of a store are there, and no card is moved away from the head; in forced colours the chosen tab and
+    the legend's signs can be told."""
+    browser.size(1280, 800)
+    with_examples(browser, page)
+    click(browser, "tab-store")
+    colours = "[...document.querySelectorAll('[role=tab]')].map(it => getComputedStyle(it).borderBottomColor)"
+    try:
+        browser.media("print", {})
+        seen = browser.value("['store-bits', 'store-apid', 'store-strip'].filter(id => document.getElementById(id).getClientRects().length)")
+        whole = browser.value("[...document.querySelectorAll('.card')].filter(it => it.matches('.main .card') && getComputedStyle(it).breakInside === 'avoid').length")
+        browser.media("", {"forced-colors": "active"})
+        tabs, signs = browser.value(colours), browser.value("[...document.querySelectorAll('#store-legend .sign')].map(it => getComputedStyle(it).backgroundColor)")
+    finally:
+        browser.media("", {})
+    if seen != ["store-bits", "store-apid", "store-strip"] or whole:
+        return f"on paper there are {seen}, and {whole} cards that can't be broken"
+    return None if tabs[1] not in (tabs[0], tabs[2]) and len(set(signs)) == len(signs) else f"in forced colours the tabs are {tabs}, and the signs {signs}"
+
+
+# What each task asks for: the view, where its answer stands, and how it begins.
+ANSWERS = [("forecast", "forecast-sure", "Sure: 0 to 9, 11 to 49"), ("forecast", "rows-told", "These 3 rows make all sure"), ("store", "store-wrong", "Wrong: 159 from bit 75"),
+           ("streams", "streams-sum", "166 packets of 1 APID"), ("fields", "fields-stretches", "Out of limits in")]
+
+
+def tell_answers(browser, page, _):
+    """What a task asks for stands in sight, without scrolling, at 1280 by 800."""
+    browser.size(1280, 800)
+    with_examples(browser, page)
+    click(browser, "tab-store")
+    browser.value("document.getElementById('to-streams').click()")
+    for view, part, words in ANSWERS:
+        click(browser, f"tab-{view}")
+        if not browser.wait(f"document.getElementById('{part}').textContent.startsWith({words!r})", 30):
+            return f"{part} says {text(browser, part)!r}"
+        top, bottom = browser.value(f"(box => [box.top, box.bottom])(document.getElementById('{part}').getBoundingClientRect())")
+        if browser.value("scrollY") or top < 0 or bottom > 800:
+            return f"{part} lies from {top} to {bottom}"
+    return None
+
+
 def unnamed_or_faint(browser):
     """Which buttons have one name, or which texts are faint, in any view and light; or None."""
     for light in LIGHTS:
-        browser.ask("Emulation.setEmulatedMedia", features=[{"name": "prefers-color-scheme", "value": light}])
+        browser.light(light)
         for view in VIEWS:
             click(browser, f"tab-{view}")
             browser.wait("document.querySelectorAll('.old').length === 0", 30)
@@ -118,7 +165,6 @@ def unnamed_or_faint(browser):
 
 def tell_saved(browser, page, files):
     """What is made can be kept: each file that is saved is what the program writes, or what was typed."""
-    browser.ask("Page.setDownloadBehavior", behavior="allow", downloadPath=files["saved"])
     begin(browser, page, "forecast")
     for name in ("plan", "script"):
         browser.choose(f"{name}-file", files[name])
@@ -137,7 +183,7 @@ def tell_saved(browser, page, files):
     click(browser, "save-table")
     click(browser, "save-outside")
     for name, wanted in files["wanted"].items():
-        path = os.path.join(files["saved"], name)
+        path = os.path.join(browser.saved, name)
         for _ in range(100):
             if os.path.exists(path) and os.path.getsize(path) >= len(wanted):
                 break

@@ -25,18 +25,14 @@ def longest_two(times):
 
 def taken(browser, steps, of):
     """What each of some steps takes, by its tasks' processor time in milliseconds, or the fault of one."""
-    found = []
-    for step in steps:
-        times = browser.tasks(step)
-        if isinstance(times, str):
-            return times
-        found.append(of(times))
-    return found
+    times = browser.tasks(steps)
+    return times if isinstance(times, str) else [of(it) for it in times]
 
 
 def slowness(browser):
     """How many times as long as then the loop takes now; at least 1."""
-    return max(1, longest(browser.tasks(lambda: browser.value(LOOP) and None)) / LOOP_TOOK)
+    browser.open("about:blank")
+    return max(1, longest(browser.tasks([lambda: browser.value(LOOP) and None])[0]) / LOOP_TOOK)
 
 
 def measured(browser, take, most, words):
@@ -48,6 +44,6 @@ def measured(browser, take, most, words):
         if isinstance(found, str):
             return found
         best = [min(it) for it in zip(best or found, found)]
-        if max(best) <= most * BESIDE * slowness(browser):
+        if max(best) <= most * BESIDE or max(best) <= most * BESIDE * slowness(browser):
             return None
     return words.format(round(max(best)))

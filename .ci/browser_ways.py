@@ -1,6 +1,7 @@
-"""What is done with the page as it ships, in Chromium: hands and fingers, large files, sizes of a window. Each case gives its fault, or None."""
+"""What is done with the page as it ships: hands and fingers, large files, sizes of a window. Each case gives its fault, or None."""
 
 import os
+import shutil
 import time
 
 from browser_times import longest, longest_two, measured, taken
@@ -44,34 +45,28 @@ def tell_wheel(browser, page, _):
     """The wheel scrolls the page; with Ctrl, or on a strip that has the focus, it zooms."""
     browser.size(1280, 500)
     begin(browser, page, "forecast")
-    wheel = lambda modifiers: browser.ask("Input.dispatchMouseEvent", type="mouseWheel", deltaX=0, deltaY=-60 if modifiers else 120, modifiers=modifiers, **browser.middle("forecast-strip"))
-    wheel(0)
+    browser.wheel(browser.middle("forecast-strip"), 120)
     if not browser.wait("scrollY > 0", 10):
         return "the wheel over the strip does not scroll the page"
     browser.value("scrollTo(0, 0)")
     if seen(browser, "forecast-strip") != 1000:
         return f"a wheel that scrolls leaves {seen(browser, 'forecast-strip')} packets in sight"
     browser.value("document.activeElement.blur()")
-    wheel(2)
+    browser.wheel(browser.middle("forecast-strip"), -60, "Control")
     found = seen(browser, "forecast-strip")
     if not 0 < found < 1000:
         return f"the wheel with Ctrl leaves {found} packets in sight"
-    wheel(8)  # with Shift, and the focus is on the strip: it moves what is seen
+    browser.wheel(browser.middle("forecast-strip"), 60, "Shift")  # (the focus is on the strip: it moves what is seen)
     return None if browser.value("scrollY") == 0 else "the wheel scrolls the page though the strip has the focus"
 
 
 def tell_fingers(browser, page, _):
     """A swipe up scrolls the page, two fingers zoom, and no finger makes a row."""
     browser.size(390, 700)
-    browser.ask("Emulation.setTouchEmulationEnabled", enabled=True, maxTouchPoints=2)
-    try:
-        begin(browser, page, "forecast")
-        texts = "document.getElementById('plan').value + document.getElementById('script').value"
-        before = browser.value(texts)
-        fault = by_fingers(browser)
-        return fault or (None if browser.value(texts) == before else "fingers changed the schedule or the losses")
-    finally:
-        browser.ask("Emulation.setTouchEmulationEnabled", enabled=False)
+    begin(browser, page, "forecast")
+    texts = "document.getElementById('plan').value + document.getElementById('script').value"
+    before = browser.value(texts)
+    return by_fingers(browser) or (None if browser.value(texts) == before else "fingers changed the schedule or the losses")
 
 
 def by_fingers(browser):
@@ -102,12 +97,8 @@ def tell_drag(browser, page, _):
     browser.value("document.getElementById('forecast-strip').scrollIntoView({block: 'center'})")
     place, losses = browser.middle("forecast-strip"), "document.getElementById('script').value"
     before = browser.value(losses)
-    mouse = lambda kind, shift: browser.ask("Input.dispatchMouseEvent", type=kind, button="left", buttons=1, clickCount=1, x=place["x"] + shift, y=place["y"])
     for shift, more in ((0, 0), (4, 0), (60, 1)):
-        mouse("mousePressed", 0)
-        mouse("mouseMoved", shift)
-        time.sleep(0.4)
-        mouse("mouseReleased", shift)
+        browser.drag(place, shift, 0.4)
         found = browser.value(losses).removeprefix(before).count("drop,")
         if found != more:
             return f"a drag by {shift} adds {found} rows"
@@ -138,9 +129,8 @@ def held_up(browser, page, view, chooser, bits, paths, words, keys):
     def take():
         begin(browser, page, view)
         give(browser, f"{view}-bits", bits)
-        first = taken(browser, [opened], longest)
-        browser.value(f"document.getElementById('{view}-strip').focus()")
-        return first if isinstance(first, str) else first + taken(browser, [lambda key=key: pressed(browser, key) for key in keys], longest)
+        focus = lambda: browser.value(f"document.getElementById('{view}-strip').focus()")
+        return taken(browser, [opened, focus, *(lambda key=key: pressed(browser, key) for key in keys)], longest)
 
     browser.size(1280, 800)
     return measured(browser, take, 50, "its longest task takes {} milliseconds")
@@ -149,9 +139,9 @@ def held_up(browser, page, view, chooser, bits, paths, words, keys):
 def tell_million(browser, page, files):
     """A store of a million packets: what is told of it, and no task of the page above 50 milliseconds."""
     keys = ("n", "+", "+", "+", "0", "End", "p", "PageUp")
-    fault = held_up(browser, page, "store", "store-file", "64", [files["million"]], "given back", keys)
+    fault = held_up(browser, page, "store", "store-file", "64", [files["million"]], "restored", keys)
     (arrived, written), told = files["million_told"], text(browser, "store-sum")
-    wanted = f"{written:,} of 1,000,000 packets given back; {arrived:,} arrived"
+    wanted = f"{written:,} of 1,000,000 packets restored; {arrived:,} arrived"
     return fault or (None if told.startswith(wanted) else f"it says {told!r}")
 
 
@@ -193,8 +183,8 @@ def tell_no_store(browser, page, files):
         def take(name=name):
             begin(browser, page, "store")
             give(browser, "store-bits", "64")
-            browser.value("""window.began = 0; window.took = 0; document.getElementById('store-file').addEventListener('change', () => { window.began = performance.now(); }, {capture: true});
-                new MutationObserver(() => { window.took ||= performance.now() - window.began; }).observe(document.getElementById('store-refusal'), {childList: true})""")
+            browser.value("""(() => { window.began = 0; window.took = 0; document.getElementById('store-file').addEventListener('change', () => { window.began = performance.now(); }, {capture: true});
+                new MutationObserver(() => { window.took ||= performance.now() - window.began; }).observe(document.getElementById('store-refusal'), {childList: true}); })()""")
             browser.choose("store-file", files[name])
             if not browser.wait("window.took > 0 && !document.getElementById('store-refusal').hidden", 60):
                 return f"{name}: it says {text(browser, 'store-sum')!r}"
@@ -212,8 +202,9 @@ def tell_cancel(browser, page, files):
     browser.size(1280, 800)
     begin(browser, page, "store")
     give(browser, "store-bits", "64")
-    browser.choose("store-file", files["small"])
-    if not browser.wait("document.getElementById('store-sum').textContent.includes('given back')", 60):
+    gone = shutil.copy(files["small"], browser.folder)
+    browser.choose("store-file", gone)
+    if not browser.wait("document.getElementById('store-sum').textContent.includes('restored')", 60):
         return f"it says {text(browser, 'store-sum')!r}"
     before = text(browser, "store-sum")
     browser.choose("store-file", files["long"])
@@ -224,11 +215,11 @@ def tell_cancel(browser, page, files):
         return f"it says {told or text(browser, 'store-busy')!r}; its picture is dim: {dim}"
     if text(browser, "store-sum") != before:
         return f"after that it says {text(browser, 'store-sum')!r}"
-    browser.choose("store-file", files["small"])
+    browser.choose("store-file", gone)
     browser.wait(f"{IS_STILL} && document.getElementById('store-busy').hidden", 60)
-    os.remove(files["small"])
+    os.remove(gone)
     give(browser, "store-bits", "72")
-    if not browser.wait("/can't be read/.test(document.getElementById('store-refusal').textContent)", 30):
+    if not browser.wait("/the file small.store can't be read/.test(document.getElementById('store-refusal').textContent)", 30):
         return f"of a file that is gone it says {text(browser, 'store-refusal')!r}, {text(browser, 'store-sum')!r}"
     return None
 

@@ -14,6 +14,18 @@ export function trouble_of(runs, at) {
   return { sure, head: runs.first[place], lost };
 }
 
+const MOST_RANGES = 16;
+
+// The ranges of packets that are sure, of many the first of them.
+export function sure_words(runs) {
+  const ranges = [];
+  for (let place = 0; place < runs.size && ranges.length <= MOST_RANGES; place += 1) {
+    const [first, last] = [runs.first[place], runs.last(place)];
+    if (runs.kind[place] === SURE) ranges.push(first === last ? grouped(first) : `${grouped(first)} to ${grouped(last)}`);
+  }
+  return ranges.length ? `sure: ${ranges.slice(0, MOST_RANGES).join(', ')}${ranges.length > MOST_RANGES ? ', ..' : ''}` : 'none is sure';
+}
+
 export function first_open(runs) {
   for (let place = 0; place < runs.size; place += 1) {
     if (runs.kind[place] === OPEN) return runs.first[place];
@@ -35,7 +47,7 @@ function dropping_row(script, at) {
 // A packet of a forecast in words.
 export function forecast_words(runs, script, at) {
   const name = `packet ${grouped(at)}`, kind = runs.kind_at(at);
-  if (kind === SURE) return `${name} is sure: it is written, whatever the recording is`;
+  if (kind === SURE) return `${name} is sure: it is restored, whatever values are sent`;
   if (kind === GONE) {
     const row = dropping_row(script, at);
     return `${name} is lost: no copy of it arrives${row ? ` (row ${row.number} of the losses, ${row.text})` : ''}`;
@@ -43,5 +55,5 @@ export function forecast_words(runs, script, at) {
   const { sure, head, lost } = trouble_of(runs, at);
   const after = sure < 0 ? 'No packet before it is sure; ' : `The latest sure packet before it is ${grouped(sure)}; after that `;
   const loss = lost.map(([first, last]) => `${range_words(first, last)} (${last - first + 1} in a row) ${first === last ? 'is' : 'are'} lost`).join(', ');
-  return `${name} is open: it arrives, and the recording decides. ${after}${loss || `packet ${grouped(head)} builds on a mask that is not sure`}`;
+  return `${name} is open: it arrives, and the values sent decide whether it is restored. ${after}${loss || `packet ${grouped(head)} builds on a mask that is not sure`}`;
 }

@@ -30,6 +30,11 @@ export function fields_of(text) {
   return records_of(text).map((record) => record.text.split(','));
 }
 
+// The APIDs of a text of streams, each with its bits.
+export function stream_rows(text) {
+  return fields_of(text).map((cells) => cells.map((cell) => cell.replace(/^"(.*)"$/, '$1')));
+}
+
 // A text with more rows at its end.
 export function with_rows(text, rows) {
   const gap = text && !/[\r\n]$/.test(text) ? '\n' : '';

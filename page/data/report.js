@@ -2,7 +2,7 @@
 
 import { FINDINGS, GAP, Runs, WRITTEN } from './runs.js';
 
-const HEAD = 'first,last,cause,value';
+export const HEAD = 'first,last,cause,value';
 const MOST_ROWS = 200; // so many are shown
 
 // The rows of one report as they come: the runs of what it names and of what is between, which is written.

@@ -5,17 +5,17 @@ import { Reader, with_room } from './text.js';
 // What can become of a packet, from the best to the worst: its word, letter, fill, the colour of its letter, and what it means.
 // Letters and colours are those of pictures/draw.py.
 export const STATES = [
-  { word: 'sure', letter: '', fill: '#a6d3f2', ink: '#000000', told: 'written, whatever the recording is' },
-  { word: 'open', letter: '?', fill: '#f5e663', ink: '#000000', told: 'it arrives, and the recording decides' },
+  { word: 'sure', letter: '', fill: '#a6d3f2', ink: '#000000', told: 'restored, whatever values are sent' },
+  { word: 'open', letter: '?', fill: '#f5e663', ink: '#000000', told: 'it arrives, and the values sent decide whether it is restored' },
   { word: 'lost', letter: 'L', fill: '#ffffff', ink: '#000000', told: 'no copy of it arrives' },
 ];
 export const FINDINGS = [
-  { word: 'written', letter: '', fill: '#a6d3f2', ink: '#000000', told: 'given back' },
+  { word: 'written', letter: '', fill: '#a6d3f2', ink: '#000000', told: 'restored' },
   { word: 'lost', letter: 'L', fill: '#ffffff', ink: '#000000', told: 'did not arrive' },
-  { word: 'gap', letter: 'G', fill: '#f5e663', ink: '#000000', told: 'its level does not reach back to what is known' },
+  { word: 'gap', letter: 'G', fill: '#f5e663', ink: '#000000', told: 'more packets before it are missing than its level allows' },
   { word: 'unsynced', letter: 'U', fill: '#e69f00', ink: '#000000', told: 'nothing is known that it builds on' },
   { word: 'early', letter: 'E', fill: '#5b2a6e', ink: '#ffffff', told: 'its data end too early' },
-  { word: 'wrong', letter: 'W', fill: '#a63c00', ink: '#ffffff', told: 'its data are no packet\'s' },
+  { word: 'wrong', letter: 'W', fill: '#a63c00', ink: '#ffffff', told: 'its data can\'t be read' },
 ];
 export const [WRITTEN, LOST, GAP, UNSYNCED, EARLY, WRONG] = [0, 1, 2, 3, 4, 5];
 export const [SURE, OPEN, GONE] = [0, 1, 2];
@@ -98,10 +98,10 @@ export class Runs {
     return counts;
   }
 
-  // The nearest packet after this one (or before it) that is in another run and not of the best kind; -1 if there is none.
-  next_bad(number, way) {
+  // The nearest packet after this one (or before it) that is in another run and not of the best kind, or of the kind `only`; -1 if there is none.
+  next_bad(number, way, only = -1) {
     for (let place = this.place_of(number) + way; place >= 0 && place < this.size; place += way) {
-      if (this.kind[place] > 0) return this.first[place];
+      if (only < 0 ? this.kind[place] > 0 : this.kind[place] === only) return this.first[place];
     }
     return -1;
   }

@@ -152,19 +152,15 @@ function summary_of({ values, out }, from, to) {
   return { low, high, first: values[from], last: values[to - 1], is_below: falls, is_above: rises };
 }
 
-const MOST_STRETCHES = 500; // so many are listed
+const MOST_STRETCHES = 500; // of a field are listed
 
-// The stretches of packets, one after the other, in which a field is out of its limits on one side: the first and the last packet, and the
-// place of the worst value. `count` is how many there are in all.
+// For each field the stretches of packets, one after the other, in which it is out of its limits on one side: the first and the last packet,
+// and the place of the worst value. `count` is how many there are in all.
 export function stretches_of(table, places) {
-  const found = [];
-  let count = 0;
-  table.fields.forEach((field, column) => {
-    const one = field.outside ? stretches_of_field(field, places) : [];
-    count += one.length;
-    for (const stretch of one.slice(0, MOST_STRETCHES)) found.push({ column, ...stretch });
+  return table.fields.map((field, column) => {
+    const all = field.outside ? stretches_of_field(field, places) : [];
+    return { count: all.length, found: all.slice(0, MOST_STRETCHES).map((stretch) => ({ column, ...stretch })) };
   });
-  return { count, found: found.slice(0, MOST_STRETCHES) };
 }
 
 function stretches_of_field({ values, out }, places) {

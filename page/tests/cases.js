@@ -1,10 +1,7 @@
 // What the page runs against what the program did: the same words and inputs, and the status, the text and all bytes of the outputs.
 
-import { are_equal, differs, faults_of, from_base64 } from './tools.js';
-import { Desk } from '../views/desk.js';
+import { are_equal, desk, differs, faults_of, from_base64 } from './tools.js';
 import { part } from '../views/parts.js';
-
-const desk = new Desk();
 
 async function test_case({ words, inputs, status, text, outputs }) {
   const given = Object.fromEntries(Object.entries(inputs).map(([name, bytes]) => [name, from_base64(bytes)]));

@@ -9,15 +9,15 @@ import { EXAMPLE } from '../data/example.js';
 import { GONE, SURE } from '../data/runs.js';
 
 const TEN_PACKETS = [
-  [0, 'packet 0 is sure: it is written, whatever the recording is'],
+  [0, 'packet 0 is sure: it is restored, whatever values are sent'],
   [10, 'packet 10 is lost: no copy of it arrives (row 1 of the losses, drop,10,10,1)'],
   [51, 'packet 51 is lost: no copy of it arrives (row 2 of the losses, drop,50,51,1)'],
   [194, 'packet 194 is lost: no copy of it arrives (row 3 of the losses, drop,190,194,1)'],
-  [195, 'packet 195 is open: it arrives, and the recording decides. The latest sure packet before it is 189; after that packets 190 to 194 (5 in a row) are lost'],
-  [204, 'packet 204 is sure: it is written, whatever the recording is'],
-  [250, 'packet 250 is open: it arrives, and the recording decides. The latest sure packet before it is 204; after that packets 205 to 207 (3 in a row) are lost'],
-  [305, 'packet 305 is sure: it is written, whatever the recording is'],
-  [599, 'packet 599 is open: it arrives, and the recording decides. The latest sure packet before it is 529; after that packets 530 to 533 (4 in a row) are lost'],
+  [195, 'packet 195 is open: it arrives, and the values sent decide whether it is restored. The latest sure packet before it is 189; after that packets 190 to 194 (5 in a row) are lost'],
+  [204, 'packet 204 is sure: it is restored, whatever values are sent'],
+  [250, 'packet 250 is open: it arrives, and the values sent decide whether it is restored. The latest sure packet before it is 204; after that packets 205 to 207 (3 in a row) are lost'],
+  [305, 'packet 305 is sure: it is restored, whatever values are sent'],
+  [599, 'packet 599 is open: it arrives, and the values sent decide whether it is restored. The latest sure packet before it is 529; after that packets 530 to 533 (4 in a row) are lost'],
   [999, 'packet 999 is lost: no copy of it arrives (row 7 of the losses, drop,999,999,1)'],
 ];
 
@@ -28,7 +28,7 @@ async function test_ten_packets() {
     return differs(`packet ${at}`, says('forecast-strip'), words);
   });
   const sum = part('forecast-sum').textContent;
-  return faults_of(faults, differs('the sum', sum, '821 of 1,000 packets are sure; for 163 the recording decides.'), differs('the mark of the example', part('forecast-example').hidden, false));
+  return faults_of(faults, differs('the sum', sum, '821 of 1,000 packets are sure; 163 are open.'), differs('the mark of the example', part('forecast-example').hidden, false));
 }
 
 async function test_keys() {
@@ -65,22 +65,23 @@ async function drag(from, to, milliseconds, more) {
 // A pointer looks at a packet and leaves it again; a drag makes a loss, or with Shift a row of whole content, if it is meant.
 async function test_pointer() {
   await put(EXAMPLE);
-  press('forecast-strip', '0', 'Home');
+  press('forecast-strip', '0', 'Home', '+', '+');
   part('forecast-strip').setPointerCapture = () => {};
-  point('forecast-strip', 'pointermove', 0.2505);
-  const faults = [differs('under the pointer', says('forecast-strip').slice(0, 18), 'packet 250 is open')];
-  point('forecast-strip', 'pointerleave', 0.2505);
+  const at = (packet) => (packet + 0.5) / 250;
+  point('forecast-strip', 'pointermove', at(195));
+  const faults = [differs('under the pointer', says('forecast-strip').slice(0, 18), 'packet 195 is open')];
+  point('forecast-strip', 'pointerleave', at(195));
   faults.push(differs('after it left', says('forecast-strip').slice(0, 16), 'packet 0 is sure'));
-  await drag(0.4005, 0.4105, 0, {});
-  await drag(0.4005, 0.4015, 300, {});
-  await drag(0.4005, 0.4205, 300, { pointerType: 'touch' });
+  await drag(at(100), at(110), 0, {});
+  await drag(at(100), at(101), 300, {});
+  await drag(at(100), at(120), 300, { pointerType: 'touch' });
   faults.push(differs('what slips add', part('script').value, EXAMPLE.script));
-  press('forecast-strip', '0');
-  await drag(0.7005, 0.7155, 300, {});
-  await drag(0.7005, 0.7155, 300, { shiftKey: true });
+  press('forecast-strip', '0', 'Home', '+', '+');
+  await drag(at(170), at(185), 300, {});
+  await drag(at(170), at(185), 300, { shiftKey: true });
   delete part('forecast-strip').setPointerCapture;
-  faults.push(differs('the loss', part('script').value, `${EXAMPLE.script}drop,700,715,1\n`));
-  faults.push(differs('the whole ones', part('plan').value, `${EXAMPLE.plan}700,715,1,fr\n`));
+  faults.push(differs('the loss', part('script').value, `${EXAMPLE.script}drop,170,185,1\n`));
+  faults.push(differs('the whole ones', part('plan').value, `${EXAMPLE.plan}170,185,1,fr\n`));
   await forecast_shown();
   return faults_of(faults);
 }
@@ -90,7 +91,7 @@ async function test_mask_alone() {
   await put({ packets: '10', robust: '0', plan: '5,5,1,r\n', script: 'drop,3,3,1\n' });
   views.forecast.span.go(7);
   const why = 'The latest sure packet before it is 5; after that packet 6 builds on a mask that is not sure';
-  return differs('packet 7', says('forecast-strip'), `packet 7 is open: it arrives, and the recording decides. ${why}`);
+  return differs('packet 7', says('forecast-strip'), `packet 7 is open: it arrives, and the values sent decide whether it is restored. ${why}`);
 }
 
 async function test_why() {
@@ -106,10 +107,16 @@ async function test_advice() {
   await put(EXAMPLE);
   // (until the advice on what stood before has gone)
   const told = () => `${part('robust-told').textContent} ${part('rows-told').querySelector('code')?.textContent}`;
-  const wanted = 'The least robust that makes all sure that arrive is 5. 195,195,1,fr\n208,208,1,fr\n534,534,1,fr';
-  if (!await until(() => told() === wanted && part('rows-told').textContent.includes('all that arrive are sure'))) return differs('the advice', told(), wanted);
-  const faults = [];
+  const wanted = 'Robust 5 is the least that makes all sure that arrive. 195,195,1,fr\n208,208,1,fr\n534,534,1,fr';
+  if (!await until(() => told() === wanted && part('rows-told').textContent.includes('These 3 rows make all sure'))) return differs('the advice', told(), wanted);
+  const faults = [differs('the safe ranges', part('forecast-sure').textContent.slice(0, 36), 'Sure: 0 to 9, 11 to 49, 52 to 189, 2')];
+  type('packets', '1001');
   part('rows-told').querySelector('button').click();
+  faults.push(differs('rows for older texts', part('plan').value, EXAMPLE.plan));
+  await put(EXAMPLE);
+  await until(() => part('rows-told').textContent.includes('These 3 rows make all sure') && !part('advice').classList.contains('old'));
+  part('rows-told').querySelector('button').click();
+  faults.push(differs('what is announced', part('forecast-change').textContent, '3 rows are added to the schedule. Z takes them back.'));
   await forecast_shown();
   faults.push(differs('the sum after them', part('forecast-sum').textContent, '984 of 1,000 packets are sure; all that arrive are.'));
   const take = part('robust-rows').querySelectorAll('button')[5];

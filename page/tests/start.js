@@ -4,6 +4,7 @@ import { case_tests } from './cases.js';
 import { FIELD_TESTS } from './fields.js';
 import { FORECAST_TESTS } from './forecast.js';
 import { STORE_TESTS } from './store.js';
+import { RANDOM_TESTS } from './random.js';
 import { put, until } from './tools.js';
 import '../views/start.js';
 import { fill, part } from '../views/parts.js';
@@ -23,7 +24,7 @@ async function tell_tests() {
   await until(() => !document.querySelector('main').hidden);
   const lines = [];
   let failed = 0;
-  for (const [name, test] of [...case_tests(), ...FORECAST_TESTS, ...STORE_TESTS, ...FIELD_TESTS]) {
+  for (const [name, test] of [...case_tests(), ...FORECAST_TESTS, ...STORE_TESTS, ...FIELD_TESTS, ...RANDOM_TESTS]) {
     const fault = await fault_of(test);
     failed += fault ? 1 : 0;
     lines.push(fault ? `FAILED ${name}: ${fault}` : `ok ${name}`);

@@ -1,8 +1,8 @@
 // Tests of a store, after a pass.
 
-import { differs, faults_of, forecast_shown, press, says, shown, type } from './tools.js';
+import { desk, differs, faults_of, forecast_shown, press, says, shown, type } from './tools.js';
 import { hex_words, to_hex } from '../views/bits.js';
-import { Desk } from '../views/desk.js';
+import { kept_bits } from '../views/memory.js';
 import { part } from '../views/parts.js';
 import { show_view, views } from '../views/tabs.js';
 import { heights_of, strip_parts } from '../views/strip.js';
@@ -10,7 +10,6 @@ import { FINDINGS, LOST, Runs, WRITTEN } from '../data/runs.js';
 import { arrivals_of, packet_length } from '../data/space.js';
 import { bytes_of } from '../data/text.js';
 
-const desk = new Desk();
 const sum = () => part('store-sum').textContent;
 
 // What a run of the program gives.
@@ -35,34 +34,45 @@ async function store_of(count, apid, script = '') {
 }
 
 async function open(name, store, bits, apid) {
-  await views.store.open(name, new Blob([store]), bits, apid);
+  await views.store.open([new File([store], name)], bits, apid);
   await shown(views.store);
 }
 
-async function test_wrong_bit() {
+// The bytes of the example, which is shown then.
+async function example() {
   show_view('store');
-  await views.store.example();
+  await views.store.open([], '64', '100');
+  return new Uint8Array(await views.store.judged.files[0].arrayBuffer());
+}
+
+async function test_wrong_bit() {
+  const store = await example(), first = to_hex(store.subarray(6, packet_length(store, 0)));
   press('store-strip', 'End', 'p');
-  const faults = [differs('the packet', says('store-strip'), 'packet 159 is wrong: its data are no packet\'s from bit 75 on')];
+  const faults = [differs('the packet', says('store-strip'), 'packet 159 is wrong: its data can\'t be read from bit 75 on')];
   await views.store.details.done;
   const wrong = part('store-words').querySelector('.first-wrong');
   faults.push(differs('the bit', wrong && wrong.textContent, '1'));
-  faults.push(differs('the sum', sum(), '166 of 180 packets given back; 169 arrived, 2 repeats among them.'));
+  faults.push(differs('the sum', sum(), '166 of 180 packets restored; 169 arrived, 2 repeats among them.'));
   faults.push(differs('the causes', part('store-report').querySelector('p').textContent, '13 lost in 4 rows, 1 wrong.'));
+  faults.push(differs('the wrong ones', part('store-wrong').textContent, 'Wrong: 159 from bit 75'));
+  const kinds = [...part('store-legend').querySelectorAll('button')], [lost] = kinds.filter((kind) => kind.textContent.includes('lost'));
+  lost.click();
+  press('store-strip', 'End', 'p');
+  const is_drawn = (kind) => views.store.strip.parts(500).some((one) => one.kind === kind);
+  faults.push(differs('lost ones alone', `${says('store-strip').slice(0, 18)} ${is_drawn(LOST)} ${is_drawn(WRITTEN)}`, 'packet 130 is lost true false'));
+  lost.click();
   press('store-strip', 'Home');
   await views.store.details.done;
-  const { store } = await desk.ask('example_store', {}), first = to_hex(store.subarray(6, packet_length(store, 0)));
   faults.push(differs('the data', part('store-words').textContent.includes(first), true));
   return faults_of(faults);
 }
 
 // The losses of a store go to a forecast, which asks for its schedule and says that it is missing.
 async function test_losses() {
-  show_view('store');
-  await views.store.example();
+  await example();
   part('to-forecast').click();
   await forecast_shown();
-  const faults = [differs('its losses', part('script').value, 'drop,23,24,1\ndrop,61,66,1\ndrop,101,101,1\ndrop,130,133,1\n')];
+  const faults = [differs('its losses and what is damaged', part('script').value, 'drop,23,24,1\ndrop,61,66,1\ndrop,101,101,1\ndrop,130,133,1\ndrop,159,159,1\n')];
   faults.push(differs('its packets', part('packets').value, '180'), differs('its schedule', part('plan').value, ''));
   const missing = () => part('forecast-missing').textContent;
   if (!missing().includes('The schedule that was sent is missing') || !part('forecast-missing').querySelector('label[for=plan-file]')) faults.push(`it says ${missing()}`);
@@ -73,8 +83,7 @@ async function test_losses() {
 }
 
 async function test_refused_store() {
-  show_view('store');
-  const { store } = await desk.ask('example_store', {});
+  const store = await example();
   await open('a cut store', store.slice(0, store.length - 3), '64', '100');
   const told = part('store-refusal').textContent, faults = [differs('what is drawn', views.store.strip.runs, null)];
   const wanted = /^This store is refused: the store ends inside the packet .* The program says: store packet at byte [0-9]+ is cut/;
@@ -82,7 +91,7 @@ async function test_refused_store() {
   faults.push(differs('the strip', says('store-strip').startsWith('no picture: store packet at byte'), true));
   part('store-refusal').querySelector('button').click();
   await shown(views.store);
-  return faults_of(faults, differs('what is before it', sum().startsWith('165 of 179 packets given back'), true));
+  return faults_of(faults, differs('what is before it', sum().startsWith('165 of 179 packets restored'), true));
 }
 
 // The packets of a store in another order.
@@ -112,8 +121,8 @@ async function test_late() {
   type('store-window', '8');
   part('use-late').click();
   await shown(views.store);
-  faults.push(differs('the sum', sum(), '198 of 200 packets given back; 198 arrived, put in order by late with a window of 8.'));
-  faults.push(differs('the legend', part('store-legend').textContent, '198 written given backL2 lost did not arrive'), differs('the warning', part('store-warning').hidden, true));
+  faults.push(differs('the sum', sum(), '198 of 200 packets restored; 198 arrived, put in order by late with a window of 8.'));
+  faults.push(differs('the legend', part('store-legend').textContent, '198 written restoredL2 lost did not arrive'), differs('the warning', part('store-warning').hidden, true));
   views.store.span.go(7);
   faults.push(differs('a packet', says('store-strip'), 'packet 7 is written'));
   await views.store.details.done;
@@ -134,10 +143,10 @@ async function test_streams() {
   const one = await store_of(50, 300, 'drop,3,4,1\n'), other = await store_of(60, 301), store = new Uint8Array(one.length + other.length);
   store.set(one);
   store.set(other, one.length);
-  localStorage.removeItem('pocket: bits by APID');
+  kept_bits.clear();
   show_view('streams');
   const view = views.streams, input = (apid) => view.inputs.get(apid), told = () => [...part('streams-strips').querySelectorAll('.sum')].map((it) => it.textContent);
-  await view.open('two', new Blob([store]));
+  await view.take([new File([store], 'two')]);
   const faults = [differs('before their bits are given', part('streams-sum').textContent, 'Give the bits of an APID\'s packets.')];
   input('300').value = '64';
   input('301').value = '0';
@@ -145,12 +154,21 @@ async function test_streams() {
   faults.push(differs('wrong bits', `${input('301').getAttribute('aria-invalid')} ${told().length}`, 'true 0'));
   input('301').value = '64';
   await view.run();
-  faults.push(differs('the sums', told().join('|'), 'APID 300: 48 of 50 packets given back; 48 arrived, 2 lost. Open APID 300|APID 301: 60 of 60 packets given back; 60 arrived. Open APID 301'));
-  await view.open('two again', new Blob([store]));
+  faults.push(differs('the sums', told().join('|'), 'APID 300: 48 of 50 packets restored; 48 arrived, 2 lost. Open APID 300|APID 301: 60 of 60 packets restored; 60 arrived. Open APID 301'));
+  const bits_file = (text) => view.take_text(new File([text], 'bits.csv')).then(() => `${input('300').value} ${part('streams-refusal').textContent}`);
+  faults.push(differs('a text that is refused', await bits_file('300,72\nx,1\n'), '64 Row 2 of bits.csv is no APID with its bits; nothing of it is taken. The program says: side row 2 is wrong.'));
+  faults.push(differs('another text', await bits_file('300,72\n'), '72 '), differs('what it remembers', kept_bits.get('300'), '64'));
+  faults.push(differs('what is lost', part('streams-sum').textContent.startsWith('0 packets of 1 APID restored'), true));
+  await view.take(Array.from({ length: 100 }, () => new File([store], 'two again')));
+  faults.push(differs('which one is shown', part('streams-name').textContent, 'two again, one of 100 files: 2 APIDs.'));
+  faults.push(differs('the most lost', part('streams-sum').textContent, '108 packets of 2 APIDs restored; 2 lost, most of them of APID 300 (2).'));
+  await view.take([new File([new Uint8Array(9000000)], 'zeros')]);
+  faults.push(differs('zeros', part('streams-refusal').textContent.startsWith('This is no store: it begins with a thousand packets'), true));
+  await view.take([new File([store], 'two again')]);
   faults.push(differs('the bits that are remembered', `${input('300').value} ${told().length}`, '64 2'));
   part('streams-strips').querySelector('button').click();
   await shown(views.store);
-  return faults_of(faults, differs('the one that is opened', `${part('store-apid').value} ${sum()}`, '300 48 of 50 packets given back; 48 arrived.'));
+  return faults_of(faults, differs('the one that is opened', `${part('store-apid').value} ${sum()}`, '300 48 of 50 packets restored; 48 arrived.'));
 }
 
 // With other bits than the sender's nearly all is wrong and unsynced, and the page says so. Neighbours in the report are one row.
@@ -169,7 +187,7 @@ async function test_front() {
   whole.set(front);
   whole.set(store, front.length);
   await open('a store behind others', whole, '64', '100');
-  return differs('what is given back', sum(), '50 of 50 packets given back; 50 arrived.');
+  return differs('what is restored', sum(), '50 of 50 packets restored; 50 arrived.');
 }
 
 // Two in a hundred packets have two hundredths of the height, and any packet some of it.
@@ -183,6 +201,34 @@ function test_shares() {
   }
   const parts = strip_parts(runs, { first: 0, width: 110000 }, 1000), most = Math.max(...parts.map((one) => one.heights[LOST]));
   return faults_of(faults, differs('one of eleven', most <= 6 && parts.every((one) => one.heights[WRITTEN] >= 42 && one.heights[LOST] >= 2), true));
+}
+
+// A first wrong bit that comes late is in sight at once, in a box that has more rows than it shows.
+async function test_late_bit() {
+  show_view('store');
+  const { store } = await ran('compress in=r out=store bits=4096 apid=100 robust=2 plan=p', { r: crypto.getRandomValues(new Uint8Array(1536)), p: bytes_of('') });
+  const at = arrivals_of(store, 100)[0], size = packet_length(store, at), longer = new Uint8Array(size + 9);
+  longer.set(store.subarray(at, at + size));
+  new DataView(longer.buffer).setUint16(4, size + 9 - 7);
+  await open('a long packet', longer, '4096', '100');
+  await views.store.details.done;
+  const bit = part('store-words').querySelector('.first-wrong'), box = bit.closest('.bits').getBoundingClientRect(), place = bit.getBoundingClientRect();
+  const is_seen = place.top >= box.top && place.bottom <= box.bottom && place.left >= box.left && place.right <= box.right;
+  return faults_of(differs('the bit is late', views.store.shown.runs.value[0] > 4000, true), differs('it is seen', is_seen, true));
+}
+
+// A worker that can't be started is told where the example would be.
+async function test_no_start() {
+  const { desk: own } = views.store;
+  own.end();
+  own.started = () => {
+    throw new Error('the program can\'t be started');
+  };
+  await views.store.open([], '64', '100');
+  const told = part('store-refusal').textContent, drawn = views.store.strip.runs;
+  delete own.started;
+  await example();
+  return faults_of(differs('what it says', told, 'the program can\'t be started. '), differs('what is drawn', drawn, null), differs('after that', sum().startsWith('166 of 180'), true));
 }
 
 // Of many bytes the beginning is shown, with how many there are.
@@ -200,5 +246,7 @@ export const STORE_TESTS = [
   ['other bits than the sender\'s', test_other_bits],
   ['a store that begins with other packets', test_front],
   ['shares of a unit', test_shares],
+  ['a late wrong bit', test_late_bit],
+  ['a worker that can\'t be started', test_no_start],
   ['many bytes', test_many_bytes],
 ];

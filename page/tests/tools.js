@@ -1,10 +1,12 @@
 // What the tests of the page use. Limits on time are wide, for a machine that has much to do.
 
+import { Desk } from '../views/desk.js';
 import { part } from '../views/parts.js';
 import { STRIP } from '../views/strip.js';
 import { views } from '../views/tabs.js';
 
 const SLOW = 40; // seconds
+export const desk = new Desk();
 
 // What a check found wrong, or nothing.
 export function differs(name, found, wanted) {
@@ -51,8 +53,12 @@ export async function put(texts) {
   await forecast_shown();
 }
 
+// What a view says of the packet that its strip has chosen; the strip itself says it in a few words.
 export function says(id) {
-  return part(id).getAttribute('aria-valuetext');
+  const { strip } = views[id.slice(0, -6)], short = part(id).getAttribute('aria-valuetext');
+  if (!strip.runs) return short;
+  const words = strip.told(strip.span.at), [name, kind] = short.split(', ');
+  return words.startsWith(name) && short.length < 80 && kind ? words : `${words} but its strip ${short}`;
 }
 
 export function press(id, ...keys) {

@@ -5,11 +5,11 @@ import { Later, button, element, fill, part, refill } from './parts.js';
 import { counted, grouped } from '../data/text.js';
 
 export class Advice {
-  // `take` is called with a value of robust, `add` with rows of the schedule.
+  // `take` is called with what was asked and a value of robust, `add` with rows of the schedule.
   constructor(take, add) {
-    Object.assign(this, { add, asked: null, total: 0, tried: [], desk: new Desk() });
+    Object.assign(this, { add, asked: null, shown: null, total: 0, desk: new Desk() });
     this.asking = new Later(() => this.ask(), 250);
-    this.rows = Array.from({ length: 8 }, (_, robust) => new RobustRow(robust, take));
+    this.rows = Array.from({ length: 8 }, (_, robust) => new RobustRow(robust, () => take(this.shown, robust)));
     fill(part('robust-rows'), ...this.rows.map((row) => row.box));
   }
 
@@ -17,7 +17,7 @@ export class Advice {
   start(asked, total) {
     Object.assign(this, { asked, total });
     part('advice').hidden = false;
-    part('advice').classList.add('old');
+    for (const id of ['advice', 'advice-first']) part(id).classList.add('old');
     this.asking.start();
   }
 
@@ -32,10 +32,11 @@ export class Advice {
 
   async ask() {
     const { asked } = this, tried = [];
-    part('advice').classList.remove('old');
+    this.shown = asked;
+    for (const id of ['advice', 'advice-first']) part(id).classList.remove('old');
     fill(part('robust-told'), 'Trying 0 to 7 ..');
     try {
-      const answer = await this.desk.ask('advice', { asked }, ({ robust, ...rows }) => (robust ? this.tell_robust(robust, tried) : this.tell_rows(rows, false)));
+      const answer = await this.desk.ask('advice', { asked }, [], ({ robust, ...rows }) => (robust ? this.tell_robust(robust, tried) : this.tell_rows(rows, false)));
       if (answer) this.tell_rows(answer, true);
     } catch (fault) {
       fill(part('robust-told'), `No advice: ${fault.message}.`);
@@ -47,22 +48,22 @@ export class Advice {
     this.rows[row.robust].show(row, this.total, String(row.robust) === this.asked.robust);
     if (tried.length < 8) return;
     const least = tried.find((one) => one.open === 0);
-    fill(part('robust-told'), least ? `The least robust that makes all sure that arrive is ${least.robust}.` : 'No robust from 0 to 7 makes all sure that arrive.');
+    fill(part('robust-told'), least ? `Robust ${least.robust} is the least that makes all sure that arrive.` : 'No robust from 0 to 7 makes all sure that arrive.');
   }
 
   tell_rows({ rows, open }, is_done) {
     const box = part('rows-told');
     if (rows.length === 0 && is_done) {
-      refill(box, 'Nothing is open, so no row is wanted.');
+      refill(box);
       return;
     }
     if (!is_done) {
       if (rows.length) refill(box, `${counted(rows.length, 'row', 'rows')} tried, ${counted(open, 'packet', 'packets')} still open ..`);
       return;
     }
-    const these = rows.length === 1 ? 'this row' : `these ${rows.length} rows`;
-    const end = open ? `After ${rows.length} rows ${counted(open, 'packet is', 'packets are')} still open. ` : `With ${these} all that arrive are sure. `;
-    refill(box, element('code', { class: 'list' }, rows.join('\n')), end, adding(rows, () => this.add(rows)));
+    const { shown } = this, these = rows.length === 1 ? 'This row makes' : `These ${rows.length} rows make`;
+    const front = open ? `After these ${rows.length} rows of whole content ${counted(open, 'packet is', 'packets are')} still open: ` : `${these} all sure, too: `;
+    refill(box, front, element('code', { class: 'list', title: rows.join('\n') }, rows.join('\n')), ' ', adding(rows, () => this.add(shown, rows)));
   }
 }
 
@@ -77,7 +78,7 @@ class RobustRow {
     this.bar = element('span', { class: 'filled' });
     this.sure = element('td', { class: 'number' });
     this.open = element('td', { class: 'number' });
-    this.take = button('Take', () => take(robust), { 'aria-label': `Take robust ${robust}` });
+    this.take = button('Take', take, { 'aria-label': `Take robust ${robust}` });
     this.box = element('tr', {}, element('th', { scope: 'row' }, String(robust)), element('td', {}, element('span', { class: 'bar' }, this.bar)),
       this.sure, this.open, element('td', {}, this.take));
   }

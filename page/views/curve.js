@@ -16,7 +16,7 @@ export class Curve {
     Object.assign(this, { view, field, key: '', columns: [], is_near: true, height, top: MARGIN, bottom: height - MARGIN });
     this.now = element('span', { class: 'now' });
     this.canvas = element('canvas', { class: 'curve', role: 'slider', tabindex: '0', 'aria-label': `The field ${field.name}`, 'aria-describedby': 'fields-keys' });
-    this.canvas.style.height = `${height}px`;
+    this.canvas.style.height = `${height / 16}rem`;
     const limits = field.limit ? `limits ${field.limit.words}` : 'no limits';
     const out = field.outside ? [element('span', { class: 'out' }, `${grouped(field.outside)} out of them`)] : [];
     this.box = element('div', {}, element('div', { class: 'curve-head' }, element('b', {}, field.name),

@@ -1,10 +1,10 @@
 // The numbers in a recording: its fields over the packets' numbers, with their limits.
 
-import { Busy } from './busy.js';
 import { Chooser } from './chooser.js';
 import { Curve } from './curve.js';
-import { Desk } from './desk.js';
-import { Later, element, fill, part, refuse_value, save, take_choice, take_drops, tell, text_of_file } from './parts.js';
+import { FileView, name_of } from './file_view.js';
+import { page_unit } from './paint.js';
+import { Later, element, fill, part, refuse_value, save, table_of, take_choice, take_drops, tell } from './parts.js';
 import { Rows } from './rows.js';
 import { read_units, unit_of, value_words } from './scale.js';
 import { Span } from './span.js';
@@ -12,23 +12,23 @@ import { zoom_buttons } from './steer.js';
 import { stretch_table } from './stretches.js';
 import { LOW_STRIP, Strip, fill_legend } from './strip.js';
 import { TimeAxis } from './time_axis.js';
-import { Runs } from '../data/runs.js';
+import { EXAMPLE_FIELDS } from '../data/example.js';
 import { ABOVE, BELOW, Places, cells_of } from '../data/table.js';
 import { counted, grouped, sentence } from '../data/text.js';
 
 const [LEAST_HEIGHT, MOST_HEIGHT, HEAD] = [46, 110, 19]; // of a curve, and what stands above each
 
-export class FieldsView {
+export class FieldsView extends FileView {
   constructor() {
-    Object.assign(this, { span: new Span(), desk: new Desk(), file: null, report: null, name: '', curves: [], table: null, runs: null, units: new Map() });
+    super('recording', 'fields', 'fields-picture', 'fields-side');
+    Object.assign(this, { span: new Span(), curves: [], units: new Map() });
     this.asking = new Later(() => this.run(), 200);
     this.rows = new Rows(part('fields-box'), 'fields', () => this.asking.start());
     this.unit_rows = new Rows(part('units-box'), 'units', () => this.take_units());
     this.chooser = new Chooser(() => this.draw_curves());
     this.axis = new TimeAxis(() => this.change_axis());
-    this.strip = new Strip(part('fields-strip'), this.span, (at) => this.told(at), { form: LOW_STRIP, key: (event) => this.key(event) });
+    this.strip = new Strip(part('fields-strip'), this.span, (at) => this.told(at), { form: LOW_STRIP, key: (event) => this.key(event), note: (at) => this.note(at) });
     this.strip.clear('no recording yet');
-    this.busy = new Busy(part('fields-busy'), [part('fields-picture'), part('fields-side')], () => this.desk.end());
     part('fields-zoom').append(zoom_buttons(this.span));
     this.span.watch(() => this.point());
     this.listen();
@@ -37,76 +37,66 @@ export class FieldsView {
   listen() {
     take_drops(part('fields-drop'), (files) => this.take(files));
     take_choice(part('recording-file'), (files) => this.take(files));
-    take_choice(part('report-file'), (files) => this.take(files));
+    take_choice(part('report-file'), ([file]) => this.take([file], 'report'));
     part('fields-bits').addEventListener('input', () => this.asking.start());
-    part('fields-example').addEventListener('click', () => this.example());
-    part('drop-report').addEventListener('click', () => this.open(this.name, this.file, part('fields-bits').value, null));
-    part('save-table').addEventListener('click', () => save('table.csv', this.table.bytes));
-    part('save-outside').addEventListener('click', () => save('limits.csv', this.outside));
+    part('fields-example').addEventListener('click', () => this.ask({ roles: ['recording', 'report'], bits: '64', fields: EXAMPLE_FIELDS }, []));
+    part('drop-report').addEventListener('click', () => this.open(this.judged.file, this.judged.bits, null));
+    part('save-table').addEventListener('click', () => save('table.csv', this.shown.table.bytes));
+    part('save-outside').addEventListener('click', () => save('limits.csv', this.shown.outside));
   }
 
-  // Files by what they hold: a report and a text of fields are known by their first words, all else is a recording.
-  async take(files) {
-    const found = {};
-    try {
-      for (const file of files) {
-        const front = await text_of_file(file.slice(0, 40));
-        if (front.startsWith('first,last,cause,value')) found.report = file;
-        else if (/^\s*(field|limit),/.test(front)) this.rows.text = await text_of_file(file);
-        else Object.assign(found, { file, name: file.name });
-      }
-    } catch (fault) {
-      tell('fields-refusal', fault.message);
-      return;
-    }
-    Object.assign(this, found.file ? { report: null, ...found } : found);
-    await this.run();
+  // Takes files beside those that are there: as one of `role`, or by what they hold.
+  take(files, role = null) {
+    const { files: there, given: { roles } } = this.asked ?? { files: [], given: { roles: [] } };
+    return this.judge([...there, ...files], [...there.map((_, place) => roles[place] ?? null), ...files.map(() => role)]);
   }
 
   // Looks at another recording; its report is a file too, or null.
-  open(name, file, bits, report) {
-    Object.assign(this, { name, file, report });
+  open(file, bits, report) {
     part('fields-bits').value = bits;
-    return this.run();
+    return this.judge(report ? [file, report] : [file], ['recording', 'report']);
   }
 
-  async example() {
-    const made = await this.desk.ask('example_recording', {});
-    if (!made) return;
-    this.rows.text = made.fields;
-    await this.open('The example', new Blob([made.recording]), '64', new Blob([made.report]));
-  }
-
-  // Has the table made; a run before that one is ended.
+  // Has the table made again, as it is asked for now.
   async run() {
-    if (!this.file) return;
-    this.asking.stop();
-    const { file, report } = this, bits = part('fields-bits').value, given = { file, report, bits, fields: this.rows.text };
-    if (this.desk.asked) this.desk.end();
-    this.busy.begin();
-    let answer;
-    try {
-      answer = await this.desk.ask('recording', given, (progress) => this.busy.tell(progress));
-    } catch (fault) {
-      answer = { status: 5, text: fault.message };
-    }
-    if (answer) this.show(answer, bits);
-    else if (!this.desk.asked) this.busy.stop();
+    if (this.asked) await this.judge(this.asked.files, this.asked.given.roles);
   }
 
-  // Shows a table, or its refusal.
-  show(answer, bits) {
-    this.busy.end();
-    const { status, text, wrong_report } = answer, fault = wrong_report || this.refuse(answer, bits);
+  judge(files, roles) {
+    return this.ask({ roles, bits: part('fields-bits').value, fields: this.rows.text }, files);
+  }
+
+  put_back() {
+    const { bits = '', fields = '' } = this.judged ?? {};
+    part('fields-bits').value = bits;
+    this.rows.text = fields;
+  }
+
+  // Shows a table, or its refusal. Of the files the recording and its report are kept.
+  show(judged) {
+    const { status, text, files, given: { roles }, recording = 0, report = -1 } = judged, fault = this.refuse(judged, judged.bits);
+    const count = files.filter((_, place) => !roles[place]).length, [file, report_file] = [files[recording], files[report]];
+    Object.assign(judged, { file, report_file, files: [file, report_file].filter(Boolean) });
+    judged.given = { ...judged.given, roles: file ? ['recording', 'kept'] : ['report'] };
+    if (!this.asking.timer) this.put_back();
     this.forget();
-    tell('fields-refusal', status === 2 || status === 3 ? '' : fault);
-    if (fault) this.strip.clear(status === 0 ? fault : status === 2 ? 'a number is refused' : text);
-    else this.build(answer);
-    tell('recording-name', `${this.name}: ${counted(this.file.size, 'byte', 'bytes')}${this.report ? ', with its report' : ''}.`);
-    part('drop-report').hidden = !this.report;
-    for (const id of ['save-table', 'save-outside']) part(id).disabled = Boolean(fault);
     this.sum();
+    tell('fields-refusal', status === 2 || status === 3 ? '' : fault);
+    if (this.table) this.build(judged);
+    else this.strip.clear(status === 0 ? 'no recording yet' : status === 2 ? 'a number is refused' : text);
+    tell('recording-name', file ? `${name_of(file, count)}: ${counted(file.size, 'byte', 'bytes')}${report_file ? ', with its report' : ''}.` : '');
+    part('drop-report').hidden = !report_file;
+    part('fields-example-mark').hidden = judged.fields !== EXAMPLE_FIELDS;
+    for (const id of ['save-table', 'save-outside']) part(id).disabled = !this.table;
     this.point();
+  }
+
+  get table() {
+    return this.shown?.table;
+  }
+
+  get runs() {
+    return this.shown?.runs;
   }
 
   // Each refusal at what it is of; gives its words, or nothing.
@@ -119,23 +109,17 @@ export class FieldsView {
 
   forget() {
     for (const curve of this.curves) curve.end();
-    Object.assign(this, { curves: [], table: null, runs: null });
+    this.curves = [];
     for (const id of ['curves', 'fields-stretches']) fill(part(id));
   }
 
-  build({ table, runs: sent, any, outside, stretches }) {
-    const runs = Runs.of(sent);
-    Object.assign(this, { table, runs, any, outside, places: new Places(runs) });
-    this.sum();
+  build({ table, runs }) {
+    this.places = new Places(runs);
     this.chooser.show(table.fields);
     this.axis.show(table.fields);
     this.draw_curves();
     this.strip.axis_words = this.axis.words(this);
     this.strip.show(runs);
-    fill(part('fields-stretches'), ...stretch_table(this, stretches, (at) => {
-      this.span.go(at);
-      part('fields-strip').focus();
-    }));
   }
 
   // Draws the chosen fields.
@@ -146,11 +130,15 @@ export class FieldsView {
     this.curves = shown.map((field) => new Curve(this, field, height));
     fill(part('curves'), ...this.curves.map((curve) => curve.box));
     this.curves.forEach((curve) => curve.change());
+    fill(part('fields-stretches'), ...(this.table ? stretch_table(this, shown, (at) => {
+      this.span.go(at);
+      part('fields-strip').focus();
+    }) : []));
   }
 
   // So high that up to eight curves are in sight at once.
   curve_height(count) {
-    const above = part('curves').getBoundingClientRect().top + window.scrollY, room = window.innerHeight - above - 12;
+    const above = part('curves').getBoundingClientRect().top + window.scrollY, room = (window.innerHeight - above - 12) / page_unit();
     return Math.max(LEAST_HEIGHT, Math.min(MOST_HEIGHT, Math.floor(room / Math.min(8, Math.max(1, count))) - HEAD));
   }
 
@@ -174,23 +162,24 @@ export class FieldsView {
 
   sum() {
     const { table, runs } = this;
-    fill_legend(part('fields-legend'), table && this.report ? runs : null);
+    fill_legend(part('fields-legend'), table && this.shown.report_file ? runs : null, this.strip);
     if (!table) {
-      fill(part('fields-sum'), this.file ? 'No picture, until what is refused is mended.' : 'No recording yet.');
+      fill(part('fields-sum'), this.judged?.file ? 'No picture, until what is refused is mended.' : 'No recording yet.');
       return;
     }
-    const outside = table.fields.reduce((sum, field) => sum + field.outside, 0), missing = runs.total - table.count;
+    const outside = table.fields.reduce((sum, field) => sum + field.outside, 0), missing = runs.total - table.count, has_limits = table.fields.some((field) => field.limit);
     const all = `${counted(table.count, 'packet', 'packets')} with ${counted(table.fields.length, 'field', 'fields')}`;
-    const out = outside ? `${counted(outside, 'value is', 'values are')} out of limits` : 'no value is out of limits';
+    const out = !has_limits ? 'no limits are given' : outside ? `${counted(outside, 'value is', 'values are')} out of limits` : 'no value is out of limits';
     const gaps = missing ? `; ${counted(missing, 'packet is', 'packets are')} missing` : '';
     fill(part('fields-sum'), element('b', {}, all), `; ${out}${gaps}.`);
   }
 
   key(event) {
     if (event.ctrlKey || event.metaKey || event.altKey || !this.table || (event.key !== 'n' && event.key !== 'p')) return false;
-    const way = event.key === 'n' ? 1 : -1, { any, places, span } = this;
+    const way = event.key === 'n' ? 1 : -1, { places, span, shown: { any } } = this;
     let t = way > 0 ? places.written_before(span.at + 1) : places.written_before(span.at) - 1;
-    while (t >= 0 && t < any.length && !any[t]) t += way;
+    const drawn = this.chooser.shown();
+    while (t >= 0 && t < any.length && !(any[t] && drawn.some((field) => field.out[t]))) t += way;
     if (t >= 0 && t < any.length) span.go(places.number_of(t));
     return true;
   }
@@ -212,6 +201,12 @@ export class FieldsView {
   out_words(field, t) {
     if (field.out[t] === BELOW) return `, below its limit ${field.limit.low_word}`;
     return field.out[t] === ABOVE ? `, above its limit ${field.limit.high_word}` : '';
+  }
+
+  // How many values of a packet are out of limits.
+  note(at) {
+    const t = this.places.of(at), out = t < 0 ? 0 : this.table.fields.filter((field) => field.out[t]).length;
+    return out ? `, ${counted(out, 'value', 'values')} out of limits` : '';
   }
 
   // A packet in words, with all its values.
@@ -239,10 +234,8 @@ export class FieldsView {
       fill(box, element('p', { class: 'state' }, sentence(this.told(at))));
       return;
     }
-    const cells = this.cells_at(t), place = this.report ? `, at place ${grouped(t)} of the recording` : '';
+    const cells = this.cells_at(t), place = this.shown.report_file ? `, at place ${grouped(t)} of the recording` : '';
     const fields = this.chooser.fields.map((field) => this.value_row(field, t, cells[table.fields.indexOf(field)]));
-    const heads = ['field', 'value', 'limits', ''].map((name) => element('th', { scope: 'col' }, name));
-    fill(box, element('p', { class: 'state' }, `Packet ${grouped(at)}${time}${place}.`),
-      element('table', {}, element('thead', {}, element('tr', {}, ...heads)), element('tbody', {}, ...fields)));
+    fill(box, element('p', { class: 'state' }, `Packet ${grouped(at)}${time}${place}.`), table_of('The values of the packet', ['field', 'value', 'limits', ''], fields));
   }
 }

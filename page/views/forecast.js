@@ -10,7 +10,7 @@ import { Span } from './span.js';
 import { zoom_buttons } from './steer.js';
 import { Strip, fill_legend } from './strip.js';
 import { EXAMPLE } from '../data/example.js';
-import { first_open, forecast_words } from '../data/forecast.js';
+import { first_open, forecast_words, sure_words } from '../data/forecast.js';
 import { OPEN, Runs } from '../data/runs.js';
 import { counted, grouped, sentence } from '../data/text.js';
 
@@ -22,11 +22,11 @@ const MISSING = 'These are the losses of a store. The schedule that was sent is 
 export class ForecastView {
   constructor() {
     Object.assign(this, { span: new Span(), before: [], runs: null, asked: EXAMPLE, is_new: true, is_missing: false, desk: new Desk(), why_desk: new Desk(), pending: null });
-    this.latest = new Latest(this.desk, (asked) => this.run(asked));
+    this.latest = new Latest((asked) => this.run(asked));
     this.asking = new Later(() => this.explain(), 160);
     this.plan = new Rows(part('plan-box'), 'schedule', () => this.typed());
     this.script = new Rows(part('script-box'), 'script', () => this.typed());
-    this.advice = new Advice((robust) => this.change(() => this.put_robust(robust)), (rows) => this.change(() => this.plan.add(rows)));
+    this.advice = new Advice((asked, robust) => this.change(() => this.put_robust(robust), asked), (asked, rows) => this.add_rows(rows, asked));
     this.busy = new Busy(part('forecast-busy'), [part('forecast-picture')], () => this.desk.end());
     this.strip = new Strip(part('forecast-strip'), this.span, (at) => forecast_words(this.runs, this.asked.script, at), {
       key: (event) => this.key(event),
@@ -80,11 +80,22 @@ export class ForecastView {
     this.is_missing = is_missing;
   }
 
-  // A change that can be taken back.
-  change(make) {
-    this.before.push(this.texts());
+  // A change that can be taken back; gives whether it was made. What was advised on other texts than those that stand is not made.
+  change(make, asked = null) {
+    const texts = this.texts();
+    if (asked && Object.keys(texts).some((name) => texts[name] !== asked[name])) {
+      this.tell_change('The texts have changed since this was tried: wait for what is tried now.');
+      return false;
+    }
+    this.before.push(texts);
     make();
     this.typed();
+    return true;
+  }
+
+  // Adds rows that were advised on some texts to the schedule.
+  add_rows(rows, asked) {
+    if (this.change(() => this.plan.add(rows), asked)) this.tell_change(`${rows.length === 1 ? `${rows[0]} is` : `${rows.length} rows are`} added to the schedule. Z takes ${rows.length === 1 ? 'it' : 'them'} back.`);
   }
 
   undo() {
@@ -145,7 +156,7 @@ export class ForecastView {
   }
 
   leap(way) {
-    const next = this.runs.next_bad(this.span.at, way);
+    const next = this.runs.next_bad(this.span.at, way, this.strip.only);
     if (next >= 0) this.span.go(next);
   }
 
@@ -207,14 +218,15 @@ export class ForecastView {
 
   sum() {
     const { runs } = this;
-    fill_legend(part('forecast-legend'), runs);
+    fill_legend(part('forecast-legend'), runs, this.strip);
+    tell('forecast-sure', runs ? sentence(sure_words(runs)) : '');
     tell('forecast-gaps', runs && this.is_long(runs.gaps) ? LONG_GAP : '');
     if (!runs) {
       fill(part('forecast-sum'), `No forecast: ${this.refused}.`);
       return;
     }
     const [, sure] = runs.end, open = runs.totals[OPEN];
-    const rest = open ? `; for ${grouped(open)} the recording decides` : '; all that arrive are';
+    const rest = open ? `; ${counted(open, 'is', 'are')} open` : '; all that arrive are';
     fill(part('forecast-sum'), element('b', {}, `${grouped(sure)} of ${counted(runs.total, 'packet is', 'packets are')} sure`), `${rest}.`);
   }
 
@@ -243,14 +255,14 @@ export class ForecastView {
     const { at } = this.span, { asked } = this;
     try {
       const found = await this.why_desk.ask('why', { asked, at });
-      if (found) refill(part('forecast-tried'), element('p', { class: 'tried' }, 'Tried by the program:'), this.ways(found, at));
+      if (found) refill(part('forecast-tried'), element('p', { class: 'tried' }, 'Tried by the program:'), this.ways(found, asked, at));
     } catch (fault) {
       fill(part('forecast-tried'), `What would make it sure can't be tried: ${fault.message}.`);
     }
   }
 
-  ways({ rows, heads, is_sure, robust }, at) {
-    const list = element('ul', { class: 'ways' }), [head] = heads, add = (more) => adding(more, () => this.change(() => this.plan.add(more)));
+  ways({ rows, heads, is_sure, robust }, asked, at) {
+    const list = element('ul', { class: 'ways' }), [head] = heads, add = (more) => adding(more, () => this.add_rows(more, asked));
     if (is_sure) {
       const many = heads.length > 1 ? 'packets' : 'packet', name = heads.length === 1 && head === at ? 'it' : `${many} ${heads.map(grouped).join(', ')}`;
       list.append(element('li', {}, `It would be sure if ${name} were whole, with its mask: `, add(rows)));

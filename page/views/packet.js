@@ -39,12 +39,15 @@ export class PacketDetails {
     const start = shown.places[shown.runs.arrival[place]];
     let details;
     try {
-      const bytes = new Uint8Array(await shown.file.slice(start, start + HEADER + MOST_DATA).arrayBuffer());
+      const bytes = new Uint8Array(await shown.files[0].slice(start, start + HEADER + MOST_DATA).arrayBuffer());
       details = arrival_details(shown, place, kind, start, bytes.subarray(0, packet_length(bytes, 0)));
     } catch (fault) {
       details = [element('p', { class: 'hint' }, `The file can't be read any more: ${fault.message}`)];
     }
-    if (turn === this.turn) fill(this.box, ...front, ...details);
+    if (turn !== this.turn) return;
+    fill(this.box, ...front, ...details);
+    const wrong = this.box.querySelector('.first-wrong'), bits = wrong?.closest('.bits');
+    bits?.scrollTo(wrong.offsetLeft - bits.clientWidth / 2, wrong.offsetTop - bits.clientHeight / 2);
   }
 }
 

@@ -18,6 +18,11 @@ const asked = new Set(); // those that are to be drawn soon
 const MOST_TIME = 6; // milliseconds of drawing at once
 let is_printing = false, is_drawing = false;
 
+// How many pixels a unit of a picture has: with a larger font all of it is larger.
+export function page_unit() {
+  return parseFloat(getComputedStyle(document.documentElement).fontSize) / 16;
+}
+
 export function is_on_paper() {
   return is_printing;
 }
@@ -70,7 +75,7 @@ export function keep_drawn(picture, canvas) {
 
 // The drawing of a canvas, cleared, in units of the page; null while it can't be seen.
 export function begin_drawing(canvas, height) {
-  const width = canvas.clientWidth, sharp = Math.max(1, window.devicePixelRatio || 1);
+  const unit = page_unit(), width = canvas.clientWidth / unit, sharp = unit * Math.max(1, window.devicePixelRatio || 1);
   if (width < 50) return null;
   if (canvas.width !== Math.round(width * sharp) || canvas.height !== Math.round(height * sharp)) {
     canvas.width = Math.round(width * sharp);

@@ -18,13 +18,13 @@ export function element(tag, given = {}, ...inside) {
 }
 
 export function button(words, on_click, more = {}) {
-  return element('button', { type: 'button', on_click, ...more }, words);
+  return element('button', { type: 'button', on_click, ...more }, ...[words].flat());
 }
 
-// A table with these names above its columns, and these rows of it.
-export function table_of(names, rows) {
+// A table with a name, these names above its columns, and these rows of it.
+export function table_of(label, names, rows) {
   const heads = names.map((name) => element('th', { scope: 'col' }, name));
-  return element('table', {}, element('thead', {}, element('tr', {}, ...heads)), element('tbody', {}, ...rows));
+  return element('table', { 'aria-label': label }, element('thead', {}, element('tr', {}, ...heads)), element('tbody', {}, ...rows));
 }
 
 const ROWS_AT_ONCE = 40;
@@ -32,7 +32,7 @@ const ROWS_AT_ONCE = 40;
 // A table of many rows: the first of them, and a button for the next ones. `make` makes the row of an item; `last` are rows that always stand
 // at the end.
 export function long_table(label, names, items, make, last = []) {
-  const table = table_of(names, [...items.slice(0, ROWS_AT_ONCE).map(make), ...last]), body = table.lastChild;
+  const table = table_of(label, names, [...items.slice(0, ROWS_AT_ONCE).map(make), ...last]), body = table.lastChild;
   const box = element('div', { class: 'report', role: 'group', tabindex: '0', 'aria-label': label }, table);
   let count = ROWS_AT_ONCE;
   const more = button('More rows', () => {

@@ -1,10 +1,11 @@
 // Side texts that are typed: a text area with the numbers of its lines, at which a refusal stands at its row; opened from a file and saved.
 
+import { page_unit } from './paint.js';
 import { button, element, fill, save, take_choice, take_drops, text_of_file } from './parts.js';
 import { WHY_ROW } from './why_row.js';
 import { records_of, with_rows } from '../data/records.js';
 
-const LINE = 20; // the height of a line
+const line_height = () => 20 * page_unit();
 
 // What each kind of text is called, and the name under which it is saved.
 const KINDS = {
@@ -39,14 +40,18 @@ export class Rows {
     place.append(element('label', { class: 'button plain', for: id }, 'Open'), chooser, ' ', button('Save', () => save(file, this.text), { 'aria-label': `Save ${name}` }));
   }
 
-  // Takes the text of a file.
+  // Takes the text of a file, unless another one was opened or something typed meanwhile.
   async open(file) {
+    const before = this.area.value, turn = this.turn = {};
+    let text;
     try {
-      this.text = await text_of_file(file);
+      text = await text_of_file(file);
     } catch (fault) {
-      this.tell(fault.message);
+      if (turn === this.turn) this.tell(fault.message);
       return;
     }
+    if (turn !== this.turn || before !== this.area.value) return;
+    this.text = text;
     this.typed();
   }
 
@@ -72,13 +77,13 @@ export class Rows {
 
   // Numbers the lines that are in sight.
   number_lines() {
-    const { scrollTop, clientHeight } = this.area, first = Math.floor(scrollTop / LINE), rows = element('div');
-    const last = Math.min(this.count, first + Math.ceil(clientHeight / LINE) + 1);
+    const { scrollTop, clientHeight } = this.area, line_high = line_height(), first = Math.floor(scrollTop / line_high), rows = element('div');
+    const last = Math.min(this.count, first + Math.ceil(clientHeight / line_high) + 1);
     for (let line = first; line < last; line += 1) {
       const is_wrong = this.wrong && line >= this.wrong.first && line <= this.wrong.last;
       rows.append(is_wrong ? element('span', { class: 'wrong' }, `✗ ${line + 1}`) : element('span', {}, `${line + 1}`));
     }
-    rows.style.transform = `translateY(${-(scrollTop - first * LINE)}px)`;
+    rows.style.transform = `translateY(${-(scrollTop - first * line_high)}px)`;
     fill(this.gutter, rows);
   }
 
@@ -102,7 +107,7 @@ export class Rows {
   }
 
   show_line(line) {
-    const top = line * LINE, { scrollTop, clientHeight } = this.area;
-    if (top < scrollTop || top + LINE > scrollTop + clientHeight) this.area.scrollTop = Math.max(0, top - LINE);
+    const high = line_height(), top = line * high, { scrollTop, clientHeight } = this.area;
+    if (top < scrollTop || top + high > scrollTop + clientHeight) this.area.scrollTop = Math.max(0, top - high);
   }
 }

@@ -1,7 +1,7 @@
 // The page as a whole: its views, the texts in its address, and files that are dropped beside the places for them.
 
 import { remembered } from './address.js';
-import { Desk } from './desk.js';
+import { Desk, compile_module } from './desk.js';
 import { FieldsView } from './fields.js';
 import { ForecastView } from './forecast.js';
 import { brings_files, fill, part, tell } from './parts.js';
@@ -17,13 +17,8 @@ function start_drops() {
   window.addEventListener('drop', (event) => {
     if (!brings_files(event)) return;
     event.preventDefault();
-    const files = [...event.dataTransfer.files], shown = shown_view();
-    if (shown === 'fields') views.fields.take(files);
-    else if (shown === 'streams') views.streams.open(files[0].name, files[0]);
-    else {
-      show_view('store');
-      views.store.take(files);
-    }
+    if (shown_view() === 'forecast') show_view('store');
+    views[shown_view()].take([...event.dataTransfer.files]);
   });
 }
 
@@ -31,7 +26,8 @@ function start_drops() {
 async function can_start() {
   const desk = new Desk();
   try {
-    await desk.ask('start', {});
+    await compile_module();
+    await desk.ask('run', { words: [], inputs: {} });
     return true;
   } catch (fault) {
     tell('fault', `The program can't be run in this browser: ${fault.message}`);
@@ -41,7 +37,15 @@ async function can_start() {
   }
 }
 
+// What fails and is told nowhere else is told here.
+function start_faults() {
+  const told = (fault) => tell('fault', `Something failed that should not: ${fault?.message ?? fault}. Load the page anew.`);
+  window.addEventListener('error', (event) => told(event.error ?? event.message));
+  window.addEventListener('unhandledrejection', (event) => told(event.reason));
+}
+
 export async function start() {
+  start_faults();
   if (!await can_start()) return;
   document.querySelector('main').hidden = false;
   fill(part('version'), '@VERSION@');

@@ -1,6 +1,7 @@
 // How a canvas steers a span: by wheel, keys, mouse and fingers. A hand that slips changes no text: only a drag of the mouse that is long
 // enough to be meant makes a row, and that row is shown before the button is let go.
 
+import { page_unit } from './paint.js';
 import { button, element } from './parts.js';
 
 const LEAST_DRAG = 8; // units of the page
@@ -36,8 +37,8 @@ export function zoom_buttons(span, of = '') {
 // first and last packet. Without it a drag moves what is seen.
 export function steer(canvas, span, left, right, more = {}) {
   const share = (event) => {
-    const box = canvas.getBoundingClientRect();
-    return (event.clientX - box.left - left) / Math.max(1, box.width - left - right);
+    const box = canvas.getBoundingClientRect(), unit = page_unit();
+    return (event.clientX - box.left - left * unit) / Math.max(1, box.width - (left + right) * unit);
   };
   // The wheel scrolls the page, as everywhere, unless Ctrl is held or the canvas has the focus.
   canvas.addEventListener('wheel', (event) => {

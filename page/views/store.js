@@ -1,8 +1,7 @@
 // After a pass: what became of the packets of a store.
 
-import { Busy } from './busy.js';
-import { Desk } from './desk.js';
-import { bits_of_apid, remember_bits } from './memory.js';
+import { FileView, name_of } from './file_view.js';
+import { kept_bits, remember_bits } from './memory.js';
 import { PacketDetails } from './packet.js';
 import { Later, button, element, fill, part, refuse_value, save, take_choice, take_drops, tell } from './parts.js';
 import { report_table } from './report_table.js';
@@ -11,19 +10,21 @@ import { zoom_buttons } from './steer.js';
 import { packet_words, store_warning, why_store } from './store_words.js';
 import { Strip, fill_legend } from './strip.js';
 import { show_view, views } from './tabs.js';
-import { LOST, Runs, WRONG } from '../data/runs.js';
+import { EARLY, LOST, WRITTEN, WRONG } from '../data/runs.js';
 import { counted, grouped } from '../data/text.js';
 
+const MOST_WRONG = 8; // packets that are named at once
 const MOST_LOSSES = 20000; // stretches that a forecast is given
+const IS_LOSS = new Set([LOST, EARLY, WRONG]); // for a forecast: what is damaged counts as lost
 
-export class StoreView {
+export class StoreView extends FileView {
   constructor() {
-    Object.assign(this, { span: new Span(), desk: new Desk(), file: null, name: '', verb: 'restore', is_new: true, shown: null });
+    super('store', 'store', 'store-picture');
+    Object.assign(this, { span: new Span(), typed: new Set() });
     this.asking = new Later(() => this.run(), 150);
     this.strip = new Strip(part('store-strip'), this.span, (at) => packet_words(this.shown.runs, this.shown.verb, at), { key: (event) => this.key(event) });
     this.strip.clear('no store yet');
     this.details = new PacketDetails(part('store-words'));
-    this.busy = new Busy(part('store-busy'), [part('store-picture')], () => this.desk.end());
     part('store-zoom').append(zoom_buttons(this.span));
     this.span.watch(() => this.point());
     this.listen();
@@ -32,99 +33,87 @@ export class StoreView {
   listen() {
     take_drops(part('store-drop'), (files) => this.take(files));
     take_choice(part('store-file'), (files) => this.take(files));
-    for (const id of ['store-bits', 'store-apid', 'store-window']) part(id).addEventListener('input', () => this.asking.start());
+    for (const id of ['store-bits', 'store-apid', 'store-window']) {
+      part(id).addEventListener('input', () => {
+        this.typed.add(id);
+        this.asking.start();
+      });
+    }
     const acts = {
-      'store-example': () => this.example(),
+      'store-example': () => this.open([], '64', '100'),
       'save-report': () => save(`${this.shown.verb}.report.csv`, this.shown.report),
       'save-recording': () => save('restored.rec', this.shown.recording),
       'to-fields': () => this.to_fields(),
       'to-forecast': () => this.to_forecast(),
       'to-streams': () => this.to_streams(),
-      'use-late': () => this.use('late'),
-      'use-restore': () => this.use('restore'),
+      'use-late': () => this.run({ verb: 'late' }),
+      'use-restore': () => this.run({ verb: 'restore' }),
     };
     for (const [id, act] of Object.entries(acts)) part(id).addEventListener('click', act);
   }
 
-  take([file]) {
-    return this.open(file.name, file, part('store-bits').value, null);
+  // What was typed in a field since it was judged, or else this value.
+  value_of(name, value) {
+    return this.typed.has(`store-${name}`) ? part(`store-${name}`).value : value;
   }
 
-  async example() {
-    const made = await this.desk.ask('example_store', {});
-    if (made) await this.open('The example', new Blob([made.store]), '64', '100');
+  take(files) {
+    return this.open(files, this.value_of('bits', null), this.value_of('apid', null));
   }
 
-  // Looks at another store. Without an APID that with most packets is taken.
-  open(name, file, bits, apid) {
-    Object.assign(this, { name, file, verb: 'restore', is_new: true });
-    part('store-bits').value = bits || bits_of_apid(apid);
-    if (apid !== null) part('store-apid').value = apid;
-    return this.run(apid);
+  // Looks at another store, or at the example. Without an APID that with most packets is taken; without bits those that are known of it.
+  open(files, bits, apid) {
+    return this.ask({ bits, apid, verb: 'restore', window: part('store-window').value, count: files.length, kept: kept_bits }, files.slice(0, 1));
   }
 
-  use(verb) {
-    this.verb = verb;
-    return this.run();
+  // Has the store judged again, as it is asked for now. The bits of another APID are not taken over.
+  async run(change = {}) {
+    if (!this.asked) return;
+    const { given, files, apid: before = given.apid, bits = given.bits } = this.asked, apid = this.value_of('apid', before);
+    await this.ask({ ...given, apid, bits: this.value_of('bits', apid === before ? bits : null), window: part('store-window').value, ...change }, files);
   }
 
-  // Has the store listed and restored; a run before that one is ended.
-  async run(apid = part('store-apid').value) {
-    if (!this.file) return;
-    this.asking.stop();
-    const { file, verb } = this, given = { file, verb, apid, bits: part('store-bits').value, window: part('store-window').value };
-    if (this.desk.asked) this.desk.end();
-    this.busy.begin();
-    let answer;
-    try {
-      answer = await this.desk.ask('store', given, (progress) => this.busy.tell(progress));
-    } catch (fault) {
-      answer = { ...given, apid: apid ?? '', status: 5, text: fault.message, apids: [], bytes: file.size };
+  // Puts what was judged into the fields. Bits that gave nothing back count as typed for the next store, too.
+  put_back(typed = []) {
+    const { bits, apid, window } = this.judged ?? { window: '64' };
+    this.typed = new Set(typed);
+    for (const [id, value] of Object.entries({ 'store-bits': bits ?? '', 'store-apid': apid ?? '', 'store-window': window })) {
+      if (part(id).value !== value) part(id).value = value;
     }
-    if (answer) this.show({ ...given, ...answer });
-    else if (!this.desk.asked) this.cancelled();
   }
 
-  // What is shown is from before, and so is the order in which it was restored.
-  cancelled() {
-    this.busy.stop();
-    this.verb = this.shown ? this.shown.verb : 'restore';
-  }
-
-  // Shows what was answered, or the refusal; what is refused leaves no picture.
-  show(answer) {
-    this.busy.end();
-    const is_well = answer.status === 0;
-    if (part('store-apid').value !== answer.apid) part('store-apid').value = answer.apid;
-    this.tell_file(answer);
-    this.refuse(answer);
-    this.shown = is_well ? { ...answer, runs: Runs.of(answer.runs), name: this.name } : null;
-    part('store-report-card').hidden = !is_well;
-    part('use-restore').hidden = this.verb !== 'late';
-    if (is_well) {
-      remember_bits(answer.apid, answer.bits);
-      this.strip.show(this.shown.runs);
-      fill(part('store-report'), report_table(answer.told, (at) => this.go(at)));
-      fill(part('report-title'), answer.verb === 'late' ? 'Its report, after the packets were put in order' : 'Its report');
-      if (this.is_new) this.begin();
-      this.is_new = false;
+  // Shows what was answered, or the refusal; what is refused leaves no picture. Bits that gave packets back are remembered.
+  show(judged, before) {
+    const { shown } = this;
+    if (!this.asking.timer) this.put_back(shown?.runs.totals[WRITTEN] ? [] : ['store-bits']);
+    this.tell_file(judged);
+    this.refuse(judged);
+    part('store-report-card').hidden = !shown;
+    part('use-restore').hidden = judged.verb !== 'late';
+    if (shown) {
+      if (shown.runs.totals[WRITTEN]) remember_bits(shown.apid, shown.front, shown.bits);
+      this.strip.show(shown.runs);
+      fill(part('store-report'), report_table(shown.told, (at) => this.go(at)));
+      fill(part('report-title'), shown.verb === 'late' ? 'Its report, after the packets were put in order' : 'Its report');
+      if (before?.status !== 0 || before.files[0] !== shown.files[0] || before.apid !== shown.apid) this.begin();
     } else {
-      this.strip.clear(answer.bits === '' ? 'the bits of a packet are to be given' : answer.status === 2 ? 'a number is refused' : answer.text);
+      this.strip.clear(judged.bits === '' ? 'the bits of a packet are to be given' : judged.status === 2 ? 'a number is refused' : judged.text);
     }
     this.sum();
     this.point();
   }
 
-  tell_file({ bytes, apids }) {
-    fill(part('store-name'), `${this.name}: ${counted(bytes, 'byte', 'bytes')}, ${counted(apids.length, 'APID', 'APIDs')}.`);
+  tell_file({ files: [file], count, apids = [] }) {
+    fill(part('store-name'), file ? `${name_of(file, count)}: ${counted(file.size, 'byte', 'bytes')}, ${counted(apids.length, 'APID', 'APIDs')}.` : '');
     fill(part('store-apids'), ...apids.map(([value]) => element('option', { value })));
     const most = 12, more = apids.length > most ? [` and ${grouped(apids.length - most)} more`] : [];
-    fill(part('store-offers'), ...(apids.length > 1 ? ['APIDs in it: ', ...apids.slice(0, most).map(([apid, count]) => this.offer(String(apid), count)), ...more] : []));
+    fill(part('store-offers'), ...(apids.length > 1 ? ['APIDs in it: ', ...apids.slice(0, most).map(([apid, packets]) => this.offer(String(apid), packets)), ...more] : []));
     part('to-streams').hidden = apids.length < 2;
   }
 
-  offer(apid, count) {
-    return button(`${apid} (${counted(count, 'packet', 'packets')})`, () => this.open(this.name, this.file, bits_of_apid(apid) || part('store-bits').value, apid));
+  offer(apid, packets) {
+    const { files } = this.judged;
+    return button(`${apid} (${counted(packets, 'packet', 'packets')})`, () => this.open(files, null, apid));
   }
 
   go(at) {
@@ -153,26 +142,37 @@ export class StoreView {
 
   // A button that looks at what is before the fault alone.
   front_button(bytes) {
-    const look = () => this.open(`${this.name}, its first ${grouped(bytes)} bytes`, this.file.slice(0, bytes), part('store-bits').value, part('store-apid').value);
+    const { files: [file], bits: given, apid } = this.judged;
+    const look = () => this.open([new File([file.slice(0, bytes)], `${file.name}, its first ${grouped(bytes)} bytes`)], given, apid);
     return button(`Look at the ${grouped(bytes)} bytes before it`, look);
   }
 
   sum() {
     const { shown } = this, runs = shown && shown.runs;
-    fill_legend(part('store-legend'), runs);
+    fill_legend(part('store-legend'), runs, this.strip);
+    fill(part('store-wrong'), ...(runs ? this.wrong_ones(runs) : []));
     tell('store-warning', shown ? store_warning(shown) : '');
     if (!shown) {
-      fill(part('store-sum'), this.file ? 'No picture, until what is refused is mended.' : 'No store yet.');
+      fill(part('store-sum'), this.judged ? 'No picture, until what is refused is mended.' : 'No store yet.');
       return;
     }
     const [arrived, written, repeats] = shown.told.end, order = shown.verb === 'late' ? `, put in order by late with a window of ${shown.window}` : '';
-    fill(part('store-sum'), element('b', {}, `${grouped(written)} of ${counted(runs.total, 'packet', 'packets')} given back`),
+    fill(part('store-sum'), element('b', {}, `${grouped(written)} of ${counted(runs.total, 'packet', 'packets')} restored`),
       `; ${grouped(arrived)} arrived${repeats ? `, ${counted(repeats, 'repeat', 'repeats')} among them` : ''}${order}.`);
+  }
+
+  // The wrong packets, each with its first wrong bit, of many the first ones.
+  wrong_ones(runs) {
+    const found = [];
+    for (let place = 0; place < runs.size && found.length < MOST_WRONG; place += 1) {
+      if (runs.kind[place] === WRONG) found.push(button(`${grouped(runs.first[place])} from bit ${grouped(runs.value[place])}`, () => this.go(runs.first[place])));
+    }
+    return found.length ? ['Wrong: ', ...found, ...(runs.totals[WRONG] > found.length ? [` and ${grouped(runs.totals[WRONG] - found.length)} more`] : [])] : [];
   }
 
   key(event) {
     if (event.ctrlKey || event.metaKey || event.altKey || !this.shown || (event.key !== 'n' && event.key !== 'p')) return false;
-    const next = this.shown.runs.next_bad(this.span.at, event.key === 'n' ? 1 : -1);
+    const next = this.shown.runs.next_bad(this.span.at, event.key === 'n' ? 1 : -1, this.strip.only);
     if (next >= 0) this.span.go(next);
     return true;
   }
@@ -181,15 +181,20 @@ export class StoreView {
     this.details.show(this.shown && this.shown.runs.total > 0 ? this.shown : null, this.span.at);
   }
 
-  // The losses of the report as the script of a forecast, of so many packets as it tells of.
+  // The losses of the report, with what is damaged, as the script of a forecast, of so many packets as it tells of.
   to_forecast() {
     const { runs, told } = this.shown, rows = [];
+    let first = -1;
     if (told.counts[LOST].stretches > MOST_LOSSES) {
       tell('store-warning', `It lost packets in ${grouped(told.counts[LOST].stretches)} stretches: too many rows for a forecast on this page.`);
       return;
     }
     for (let place = 0; place < runs.size; place += 1) {
-      if (runs.kind[place] === LOST) rows.push(`drop,${runs.first[place]},${runs.last(place)},1\n`);
+      if (!IS_LOSS.has(runs.kind[place])) continue;
+      if (first < 0) first = runs.first[place];
+      if (place + 1 < runs.size && IS_LOSS.has(runs.kind[place + 1])) continue;
+      rows.push(`drop,${first},${runs.last(place)},1\n`);
+      first = -1;
     }
     show_view('forecast');
     views.forecast.put_losses(runs.total, rows.join(''));
@@ -197,12 +202,12 @@ export class StoreView {
 
   to_streams() {
     show_view('streams');
-    views.streams.open(this.name, this.file);
+    views.streams.take(this.judged.files);
   }
 
   to_fields() {
-    const { recording, report, bits } = this.shown;
+    const { recording, report, bits, files: [file] } = this.shown, name = `the restored packets of ${file.name}`;
     show_view('fields');
-    views.fields.open(`the restored packets of ${this.name}`, new Blob([recording]), bits, new Blob([report]));
+    views.fields.open(new File([recording], name), bits, new File([report], `the report of ${name}`));
   }
 }

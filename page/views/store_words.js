@@ -33,7 +33,7 @@ export function packet_words(runs, verb, at) {
     const [first, last] = [runs.first[place], runs.last(place)];
     return `${name} is lost: it did not arrive${last > first ? `, as ${range_words(first, last)}` : ''}`;
   }
-  if (kind === 'wrong') return `${name} is wrong: its data are no packet's from bit ${value} on${again}`;
+  if (kind === 'wrong') return `${name} is wrong: its data can't be read from bit ${value} on${again}`;
   if (kind === 'early') return `${name} is early: its data, of ${value} bits, end too early${again}`;
   const half = runs.half[place] ? (kind === 'written' ? ', its mask is not known' : ', its mask is known') : '';
   if (kind === 'unsynced') return `${name} is unsynced: it arrived, and nothing is known that it builds on${half}${again}`;
@@ -45,7 +45,7 @@ export function packet_words(runs, verb, at) {
 export function store_warning({ runs, verb, window, falls, told }) {
   const arrived = runs.total - runs.totals[LOST], odd = runs.totals[WRONG] + runs.totals[UNSYNCED] + runs.totals[EARLY];
   if (runs.total === 0) return 'No packet of this store has this APID.';
-  if (runs.totals[0] === 0) return `Nothing is given back: ${NOT_THE_SENDERS}`;
+  if (runs.totals[0] === 0) return `Nothing is restored: ${NOT_THE_SENDERS}`;
   if (odd >= NEARLY * arrived) return `Nearly all that arrived are wrong or unsynced: ${NOT_THE_SENDERS}`;
   if (verb === 'restore' && falls) return `The sequence counts fall back at ${counted(falls, 'packet', 'packets')}: ${DISORDER}`;
   if (!told.late) return '';

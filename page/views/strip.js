@@ -1,7 +1,7 @@
 // A strip of packets by number, on a canvas. If several packets share a unit of the page, each state has its share of the height there, and
 // none that is there is left out.
 
-import { element, fill } from './parts.js';
+import { button, element, fill } from './parts.js';
 import { LEVEL_BAR, begin_drawing, colours, draw_axis, draw_choice, draw_hatch, draw_soon, draw_whole, keep_drawn, lost_pattern, write } from './paint.js';
 import { steer } from './steer.js';
 import { NO_LEVEL } from '../data/runs.js';
@@ -56,17 +56,23 @@ function shared_parts(runs, span, wide) {
   return parts;
 }
 
+// What one kind alone has of a part, or null.
+function part_of(one, only) {
+  return one.heights[only] ? { ...one, kind: only, is_whole: one.heights[only] === STEPS, heights: one.heights.map((height, kind) => (kind === only ? height : 0)) } : null;
+}
+
 export class Strip {
-  // `told` gives the words of a packet; `more` is for the keys and the drags of the view.
+  // `told` gives the words of a packet, of which the canvas says the shortest; `more` is for the keys and the drags of the view.
   constructor(canvas, span, told, more = {}) {
-    Object.assign(this, { canvas, span, told, form: more.form || STRIP, runs: null, refusal: '', axis_words: null, drag_word: more.drag_word || (() => ''), cut: { key: '', parts: [] } });
+    Object.assign(this, { canvas, span, told, form: more.form || STRIP, runs: null, refusal: '', axis_words: null, drag_word: more.drag_word || (() => ''), note: more.note || (() => ''), only: -1, cut: { key: '', parts: [] } });
     span.watch(() => this.change());
-    canvas.style.height = `${this.form.height}px`;
+    canvas.style.height = `${this.form.height / 16}rem`;
     steer(canvas, span, STRIP.left, STRIP.right, more);
     this.end = keep_drawn(this, canvas);
   }
 
   show(runs) {
+    if (!runs.totals[this.only]) this.only = -1;
     this.runs = runs.total > 0 ? runs : null;
     this.refusal = runs.total > 0 ? '' : 'no packets';
     this.cut.key = '';
@@ -93,13 +99,13 @@ export class Strip {
     canvas.setAttribute('aria-valuenow', runs ? span.at : 0);
     const [first, last] = span.chosen();
     const chosen = runs && last > first ? `, ${range_words(first, last)} chosen` : '';
-    canvas.setAttribute('aria-valuetext', runs ? this.told(span.at) + chosen : `no picture: ${this.refusal}`);
+    canvas.setAttribute('aria-valuetext', runs ? `packet ${grouped(span.at)}, ${runs.kinds[runs.kind_at(span.at)].word}${this.note(span.at)}${chosen}` : `no picture: ${this.refusal}`);
   }
 
-  // The parts of what is seen, cut anew if that is another part of the packets.
+  // The parts of what is seen, cut anew if that is another part of the packets or another kind alone.
   parts(wide) {
-    const { span, runs, cut } = this, key = `${span.first} ${span.width} ${wide}`;
-    if (cut.key !== key) this.cut = { key, parts: strip_parts(runs, span, wide) };
+    const { span, runs, cut, only } = this, key = `${span.first} ${span.width} ${wide} ${only}`;
+    if (cut.key !== key) this.cut = { key, parts: strip_parts(runs, span, wide).map((one) => (only < 0 ? one : part_of(one, only))).filter(Boolean) };
     return this.cut.parts;
   }
 
@@ -170,6 +176,7 @@ export class Strip {
       const x = left + (number - span.first) * each, place = runs.place_of(number);
       pen.fillStyle = each < 9 ? 'rgba(0, 0, 0, 0.12)' : colours().edge;
       if (x > left) pen.fillRect(Math.round(x), top, 1, bottom - top);
+      if (this.only >= 0 && runs.kind[place] !== this.only) continue;
       const level = runs.level[place], ink = runs.kinds[runs.kind[place]].ink;
       if (level !== NO_LEVEL && level > 0) {
         const bar = ((bottom - top - 2) * level) / 15;
@@ -223,13 +230,18 @@ export class Strip {
   }
 }
 
-// The key of a strip's kinds, with how many packets each has.
-export function fill_legend(box, runs) {
-  const shown = runs ? runs.kinds.map((kind, place) => ({ kind, count: runs.totals[place] })).filter((row) => row.count > 0) : [];
-  fill(box, ...shown.map(({ kind, count }) => {
+// The key of a strip's kinds, with how many packets each has; a press shows one kind alone, among which N and P go then.
+export function fill_legend(box, runs, strip) {
+  const shown = runs ? runs.kinds.map((kind, place) => ({ kind, place, count: runs.totals[place] })).filter((row) => row.count > 0) : [];
+  fill(box, ...shown.map(({ kind, place, count }) => {
     const sign = element('span', { class: `sign ${kind.word}`, 'aria-hidden': 'true' }, kind.letter);
     sign.style.background = kind.fill;
     sign.style.color = kind.ink;
-    return element('li', {}, sign, element('b', {}, `${grouped(count)} ${kind.word}`), ` ${kind.told}`);
+    const press = () => {
+      strip.only = strip.only === place ? -1 : place;
+      [...box.querySelectorAll('button')].forEach((other, at) => other.setAttribute('aria-pressed', String(shown[at].place === strip.only)));
+      strip.change();
+    };
+    return element('li', {}, button([sign, element('b', {}, `${grouped(count)} ${kind.word}`)], press, { 'aria-pressed': String(strip.only === place), title: `${kind.word} alone, or all` }), ` ${kind.told}`);
   }));
 }

@@ -4,6 +4,7 @@ import { run_program } from './program.js';
 import { arrivals_of } from '../data/space.js';
 import { bytes_of } from '../data/text.js';
 
+export const EXAMPLE_NAME = 'The example';
 const EXAMPLE_LOSS = 'drop,23,24,1\ndrop,61,66,1\nrepeat,80,81,1,1\ndrop,101,101,1\ndrop,130,133,1\n';
 
 // Housekeeping of a craft in sun and shadow: so many packets of 64 bits.

@@ -1,6 +1,28 @@
-// Files that were chosen or dropped, read piece by piece.
+// Files that were chosen or dropped, read piece by piece: by the page, for a worker can't read them in every browser.
 
 const PIECE = 4 << 20;
+let waiting = null; // what a piece is given to
+
+// A file of the page for the question of this number: `place` is where the page has it.
+export class PageFile {
+  constructor(number, { place, name, size }) {
+    Object.assign(this, { number, place, name, size });
+  }
+
+  read(from, to) {
+    return new Promise((done, fail) => {
+      waiting = { number: this.number, done, fail };
+      postMessage({ number: this.number, wanted: { place: this.place, from, to } });
+    });
+  }
+}
+
+// Takes a piece that the page has read, or why it can't be read.
+export function take_piece({ number, piece, fault }) {
+  if (waiting?.number !== number) return;
+  if (fault) waiting.fail(new Error(fault));
+  else waiting.done(new Uint8Array(piece));
+}
 
 // Reads a file, and tells after each piece how much of it is there. `is_enough` is asked then whether the rest is needed; without the rest
 // the bytes are those that were read.
@@ -8,7 +30,7 @@ export async function* bytes_of_file(file, seen = () => {}, is_enough = () => fa
   const bytes = room_for(file);
   let read = 0;
   while (read < file.size) {
-    const piece = await piece_of(file, read);
+    const piece = await file.read(read, read + PIECE);
     bytes.set(piece, read);
     read += piece.length;
     seen(bytes, read);
@@ -23,13 +45,5 @@ function room_for(file) {
     return new Uint8Array(file.size);
   } catch (_) {
     throw new Error(`there is no memory for a file of ${file.size} bytes`);
-  }
-}
-
-async function piece_of(file, from) {
-  try {
-    return new Uint8Array(await file.slice(from, from + PIECE).arrayBuffer());
-  } catch (fault) {
-    throw new Error(`the file ${file.name ? `${file.name} ` : ''}can't be read: ${fault.message}`);
   }
 }

@@ -1,29 +1,34 @@
 // The proved code, as a WebAssembly module, and its nine verbs over a desk in memory.
 //
-// `compiled` compiles the module out of its text in base64. `run(module, words, inputs)` runs one command: its words as on the command line,
-// and the bytes of each name that it reads. It gives {status, text, outputs}: the program's exit number, the text of the refusal or "", and
-// the bytes of what `out=` and `report=` name. It throws if there is no memory for the inputs or the words.
+// `machine_of` makes an instance of the module. `run(machine, words, inputs)` runs one command: its words as on the command line, and the
+// bytes of each name that it reads. It gives {status, text, outputs}: the program's exit number, the text of the refusal or "", and the
+// bytes of what `out=` and `report=` name. It throws a NoMemory if there is none for the inputs, the words or the outputs.
 // What follows is not proved: the heap and the copies are tested against the program (.ci/browser.py). An address past the memory
-// ends a run, a wrong one inside it would not be seen; so there is little of it, and each run has an instance and a memory of its own.
+// ends a run, a wrong one inside it would not be seen; so there is little of it. A browser has room for some hundred memories, so one
+// instance does many runs, and each finds the memory below the heap as it was at first, and no block taken.
 
 const PAGE = 65536, TEXT_BYTES = 128, NO_ROOM = 11;
+
+export class NoMemory extends Error {}
+
 const encoder = new TextEncoder(), decoder = new TextDecoder();
+
+// Whether the memory has so many bytes, or can have.
+function has_room(memory, bytes) {
+  const missing = Math.ceil((bytes - memory.buffer.byteLength) / PAGE);
+  try {
+    if (missing > 0) memory.grow(missing);
+    return true;
+  } catch (_) {
+    return false;
+  }
+}
 
 // The heap that the module asks for memory. A block has 16 bytes more than a power of two; the first four tell the power.
 function heap_of(memory, base) {
   const free = Array.from({ length: 33 }, () => []);
   let end = Math.ceil(base / 16) * 16;
   const view = () => new DataView(memory.buffer);
-
-  function grown(to) {
-    const missing = Math.ceil((to - memory.buffer.byteLength) / PAGE);
-    try {
-      if (missing > 0) memory.grow(missing);
-      return true;
-    } catch (_) {
-      return false;
-    }
-  }
   // A place for so many bytes, or null.
   function take(bytes) {
     const power = Math.max(4, Math.ceil(Math.log2(Math.max(bytes, 1))));
@@ -31,9 +36,15 @@ function heap_of(memory, base) {
     const kept = free[power].pop();
     if (kept !== undefined) return kept;
     const at = end + 16;
-    if (!grown(at + 2 ** power)) return null;
+    if (!has_room(memory, at + 2 ** power)) return null;
     end = at + 2 ** power;
     view().setUint32(at - 16, power, true);
+    return at;
+  }
+  // A place for so many bytes, for the inputs and the outputs.
+  function place(bytes) {
+    const at = take(bytes);
+    if (at === null) throw new NoMemory(`there is no memory for ${bytes} bytes`);
     return at;
   }
   const give = (at) => free[view().getUint32(at - 16, true)].push(at);
@@ -46,11 +57,11 @@ function heap_of(memory, base) {
     give(at);
     return moved;
   }
-  return { take, give, change };
+  return { take, place, give, change };
 }
 
 // A new instance of the module.
-function started(module) {
+export function machine_of(module) {
   let memory = null, heap = null;
   const told = (to, at) => {
     const view = new DataView(memory.buffer);
@@ -64,17 +75,18 @@ function started(module) {
   };
   const calls = new WebAssembly.Instance(module, { env }).exports;
   memory = calls.memory;
-  heap = heap_of(memory, Number(calls.__heap_base.value));
-  return { calls, memory, heap };
+  const base = Number(calls.__heap_base.value), front = new Uint8Array(memory.buffer).slice(0, base);
+  const begin = () => {
+    new Uint8Array(memory.buffer).set(front);
+    heap = heap_of(memory, base);
+    return heap;
+  };
+  return { calls, memory, begin };
 }
 
-// A desk of a new instance, with the calls of library/pocket.h.
-function desk_of({ calls, memory, heap }) {
-  function place(bytes) {
-    const at = heap.take(bytes);
-    if (at === null) throw new Error(`there is no memory for ${bytes} bytes`);
-    return at;
-  }
+// A desk of an instance whose last run is forgotten, with the calls of library/pocket.h.
+function desk_of({ calls, memory, begin }) {
+  const heap = begin(), { place } = heap;
   const handle = place(16), length = place(8);
   const view = () => new DataView(memory.buffer);
   const copied = (at, bytes) => new Uint8Array(memory.buffer, at, bytes).slice();
@@ -82,7 +94,8 @@ function desk_of({ calls, memory, heap }) {
 
   function call(name, ...given) {
     const status = calls[`pocket_${name}`](BigInt(handle), ...given.map(BigInt));
-    if (status !== 0 && status !== NO_ROOM) throw new Error(status === 1 ? 'there is no memory' : `pocket_${name} answers ${status}`);
+    if (status === 1) throw new NoMemory('there is no memory');
+    if (status !== 0 && status !== NO_ROOM) throw new Error(`pocket_${name} answers ${status}`);
     return status;
   }
   // Calls what takes these bytes one by one, each by its place and length.
@@ -110,8 +123,8 @@ function desk_of({ calls, memory, heap }) {
   return { put: (name, bytes) => call_with('put', encoder.encode(name), bytes), word: (word) => call_with('word', encoder.encode(word)), end, get };
 }
 
-export function run(module, words, inputs) {
-  const desk = desk_of(started(module)), outputs = {};
+export function run(machine, words, inputs) {
+  const desk = desk_of(machine), outputs = {};
   for (const [name, bytes] of Object.entries(inputs)) desk.put(name, bytes);
   words.forEach(desk.word);
   const answer = desk.end();
@@ -120,8 +133,4 @@ export function run(module, words, inputs) {
     if (named) outputs[named[1]] = desk.get(named[1]);
   }
   return { ...answer, outputs };
-}
-
-export function compiled(text) {
-  return WebAssembly.compile(Uint8Array.from(atob(text.trim()), (letter) => letter.charCodeAt(0)));
 }

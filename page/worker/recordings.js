@@ -1,27 +1,64 @@
 // What is asked of a recording: its table of fields, and where its packets stand among all numbers.
 
-import { example_store } from './examples.js';
+import { EXAMPLE_NAME, example_store } from './examples.js';
 import { bytes_of_file } from './files.js';
 import { run_program } from './program.js';
 import { EXAMPLE_FIELDS } from '../data/example.js';
-import { Report, read_report } from '../data/report.js';
+import { fields_of } from '../data/records.js';
+import { HEAD, Report, read_report } from '../data/report.js';
 import { Places, mark_limits, mark_outside, read_table, stretches_of } from '../data/table.js';
-import { bytes_of } from '../data/text.js';
+import { bytes_of, grouped, text_of } from '../data/text.js';
 
-// The table of a recording by a text of fields; `report` is the file of its restoring's report, or null if no packet is missing.
-export async function* recording_job({ file, bits, fields, report }) {
-  const recording = yield* bytes_of_file(file);
+const MOST_VALUES = 20e6, FRONT = 40;
+const VALUES = `values, more than this page draws (${grouped(MOST_VALUES)}): the program's \`table\` writes them`;
+
+// Which of some files are a recording, its report and a text of fields: by their roles, or by how they begin. What begins as no text of
+// these two is a recording; of several the last one is taken, and one that comes alone has no report.
+async function* roles_of({ files, roles, fields }) {
+  const found = { recording: -1, report: -1, fields };
+  for (const [place, file] of files.entries()) {
+    const role = roles[place] ?? role_of(text_of(await file.read(0, FRONT)));
+    if (role === 'fields') found.fields = text_of(yield* bytes_of_file(file));
+    else found[role === 'kept' ? 'report' : role] = place;
+    if (role === 'recording' && !roles[place] && roles[found.report] === 'kept') found.report = -1;
+  }
+  return found;
+}
+
+function role_of(front) {
+  if (front.startsWith(HEAD)) return 'report';
+  return /^\s*(field|limit),/.test(front) ? 'fields' : 'recording';
+}
+
+// The table of a recording by a text of fields. The files are what is shown and what comes in its place, each with its role or none; without
+// files it is the example.
+export async function* recording_job(asked) {
+  const made = asked.files.length ? null : example_of_recording();
+  const found = made ? { recording: 0, report: 1, fields: EXAMPLE_FIELDS } : yield* roles_of(asked);
+  const bits = made ? '64' : asked.bits, told = { ...found, bits, ...(made ?? {}) }, run = (recording) => table_by(recording, bits, found.fields);
+  if (found.recording < 0) return { ...told, status: 0, text: '' };
+  // (what is wrong with the bits or the fields is told before much is read)
+  const tried = run(new Uint8Array(0)), size = made ? 0 : asked.files[found.recording].size;
+  if (tried.status !== 0) return { ...told, status: tried.status, text: tried.text };
+  const values = Math.floor((8 * size) / Number(bits)) * Math.max(1, fields_of(found.fields).filter(([word]) => word === 'field').length);
+  if (values > MOST_VALUES) return { ...told, status: 5, text: `the recording has ${grouped(values)} ${VALUES}` };
+  const recording = made ? made.made[0].slice() : yield* bytes_of_file(asked.files[found.recording]);
+  const report = made ? made.made[1].slice() : found.report < 0 ? null : yield* bytes_of_file(asked.files[found.report]);
   yield { doing: 'reading its fields' };
-  const words = ['table', 'in=recording', 'out=table', 'report=outside', 'fields=fields', `bits=${bits}`];
-  const { status, text, outputs } = run_program(words, { recording, fields: bytes_of(fields) });
-  if (status !== 0) return { status, text };
+  const { status, text, outputs } = run(recording);
+  if (status !== 0) return { ...told, status, text };
   yield { doing: 'reading its values' };
-  return { status, text, ...table_of(outputs, fields, report && await report.text()) };
+  return { ...told, status, text, ...table_of(outputs, found.fields, report && text_of(report)) };
+}
+
+function table_by(recording, bits, fields) {
+  const words = ['table', 'in=recording', 'out=table', 'report=outside', 'fields=fields', `bits=${bits}`];
+  return run_program(words, { recording, fields: bytes_of(fields) });
 }
 
 function table_of({ table: bytes, outside }, fields, text) {
-  const table = read_table(bytes), report = text ? read_report(text, table.count) : whole(table.count);
-  if (typeof report === 'string') return { wrong_report: report };
+  const table = read_table(bytes), report = text === null ? whole(table.count) : read_report(text, table.count);
+  if (typeof report === 'string') return { status: 6, text: report };
   const { runs } = report, any = mark_outside(table, outside);
   mark_limits(table, fields);
   return { table, runs, any, outside, stretches: stretches_of(table, new Places(runs)) };
@@ -34,8 +71,8 @@ function whole(count) {
   return report;
 }
 
-// The example: a recording with its report, and the text of its fields.
-export function* example_recording_job() {
+// The example: a recording with its report.
+function example_of_recording() {
   const { outputs } = run_program(['restore', 'in=store', 'out=recording', 'report=report', 'bits=64', 'apid=100'], { store: example_store() });
-  return { recording: outputs.recording, report: outputs.report, fields: EXAMPLE_FIELDS };
+  return { made: [outputs.recording, outputs.report], name: EXAMPLE_NAME };
 }

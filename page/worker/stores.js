@@ -1,40 +1,41 @@
 // What is asked of a store: its listing, what is restored of it, and that of many streams.
 
-import { example_store } from './examples.js';
+import { EXAMPLE_NAME, example_store } from './examples.js';
 import { bytes_of_file } from './files.js';
 import { run_program } from './program.js';
-import { fields_of } from '../data/records.js';
+import { stream_rows } from '../data/records.js';
 import { read_report, read_streams } from '../data/report.js';
 import { read_listing } from '../data/runs.js';
 import { Walk, arrivals_of, falls_back } from '../data/space.js';
 import { bytes_of, text_of } from '../data/text.js';
 
-// The bytes of a store and the walk over its headers. The rest of a file is not read after a header that is none.
+const FRONT = 16; // bytes by which a store is known again
+const ALIKE = 'This is no store: it begins with a thousand packets of one and the same header, of a shape that is never judged';
+export const MOST_STREAMS = 64; // of one run
+
+// The bytes of a store, and what its headers tell: its APIDs with how many packets each has, the lesser ones first, and the one with most
+// packets. The rest of a file is not read after a header that is none.
 async function* read_store(file) {
   let walk = null;
   const store = yield* bytes_of_file(file, (bytes, read) => {
     walk ??= new Walk(bytes);
     walk.read(read);
   }, (read) => walk.is_told(read));
-  return { store, walk: walk ?? new Walk(store) };
+  walk ??= new Walk(store);
+  const apids = [...walk.apids].sort((one, other) => one[0] - other[0]), [most] = [...apids].sort((one, other) => other[1] - one[1]);
+  return { store, told: { apids, front: store.subarray(0, FRONT).join(' ') }, main: most ? String(most[0]) : '100', is_alike: walk.is_alike() };
 }
 
-// The APIDs of a walk with how many packets each has, the lesser ones first.
-function told_apids(walk) {
-  return [...walk.apids].sort((one, other) => one[0] - other[0]);
-}
+// The bits that gave packets back: of this file, or else of the latest one with this APID.
+const known_bits = (kept, front, apid) => kept.get(`${apid} ${front}`) ?? kept.get(String(apid)) ?? '';
 
-// The APID with most packets.
-function main_apid(walk) {
-  const [most] = [...walk.apids].sort((one, other) => other[1] - one[1]);
-  return most ? String(most[0]) : '100';
-}
-
-// Looks at a store: lists it and restores it by `verb`, restore or late. `apid` may be null: then it is the one with most packets. So it is
-// of bytes whose headers are all alike.
-export async function* store_job({ file, bits, apid: wanted, verb, window }) {
-  const { store, walk } = yield* read_store(file), apid = walk.is_alike() ? main_apid(walk) : wanted ?? main_apid(walk);
-  const given = ['in=store', `bits=${bits}`, `apid=${apid}`], answer = { apid, apids: told_apids(walk), bytes: file.size, verb };
+// Looks at a store: lists it and restores it by `verb`, restore or late. Without an APID it is the one with most packets, and so it is of
+// bytes whose headers are all alike; without bits they are those that are known of the APID. Without a file it is the example.
+export async function* store_job({ files: [file], bits: given_bits, apid: wanted, kept, verb, window }) {
+  const made = file ? null : example_store();
+  const { store, told, main, is_alike } = file ? yield* read_store(file) : { store: made, told: { apids: [[100, 170]], front: '' } };
+  const apid = is_alike ? main : wanted ?? main, bits = given_bits ?? known_bits(kept, told.front, apid);
+  const given = ['in=store', `bits=${bits}`, `apid=${apid}`], answer = { ...told, apid, bits, ...(made ? { made: [made.slice()], name: EXAMPLE_NAME } : {}) };
   if (verb === 'restore') {
     yield { doing: 'listing its packets' };
     Object.assign(answer, listed(store, given, Number(apid)));
@@ -60,18 +61,18 @@ function restored({ status, text, outputs: { recording, report } }, verb) {
   return { status, text, recording, report, told: read.told(), ...(verb === 'late' ? { runs: read.runs } : {}) };
 }
 
-// Looks at all streams of a store that `streams`, a text of rows APID,bits, has.
-export async function* streams_job({ file, streams }) {
-  const { store, walk } = yield* read_store(file);
+// Looks at all streams of a store. `streams` is a text of rows APID,bits; or a file has it, which comes after the store; or, if it is null, the
+// bits are those that are known.
+export async function* streams_job({ files: [file, text_file], streams: given, kept }) {
+  const { store, told, is_alike } = yield* read_store(file);
+  const most = [...told.apids].sort((one, other) => other[1] - one[1]).slice(0, MOST_STREAMS).sort((one, other) => one[0] - other[0]);
+  const known = most.map(([apid]) => [apid, known_bits(kept, told.front, apid)]).filter(([, bits]) => bits).map((row) => `${row}\n`).join('');
+  const streams = text_file ? text_of(yield* bytes_of_file(text_file)) : given ?? known, answer = { ...told, most, streams, file_of_text: text_file?.name };
+  if (is_alike) return { ...answer, status: 5, text: ALIKE };
   yield { doing: 'restoring all streams' };
   const { status, text, outputs } = run_program(['multi', 'in=store', 'out=contents', 'report=report', 'streams=streams'], { store, streams: bytes_of(streams) });
-  const answer = { status, text, apids: told_apids(walk) };
-  if (status !== 0) return answer;
-  const { reports, shape } = read_streams(text_of(outputs.report), fields_of(streams).map(([apid]) => apid));
-  const found = [...reports].map(([apid, report]) => ({ apid, runs: report.runs, told: report.told() }));
-  return { ...answer, found, shape, report: outputs.report, contents: outputs.contents };
-}
-
-export function* example_store_job() {
-  return { store: example_store() };
+  if (status !== 0) return { ...answer, status, text };
+  const rows = stream_rows(streams), { reports, shape } = read_streams(text_of(outputs.report), rows.map(([apid]) => apid));
+  const found = rows.map(([apid, bits]) => ({ apid, bits, runs: reports.get(apid).runs, told: reports.get(apid).told() }));
+  return { ...answer, status, text, found, shape, report: outputs.report, contents: outputs.contents };
 }

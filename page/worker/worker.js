@@ -1,16 +1,14 @@
-// The worker: all runs of the program, off the page's thread. Its first message is the module's text; each other one is a question: a
-// number, the name of a job and what it is given. It answers each with messages of that number: what is under way, and then the answer or a
-// fault. Between the steps of a job it looks for the next question, which ends the one before.
+// The worker: all runs of the program, off the page's thread. Its first message is the module; each other one is a question (a number, the
+// name of a job and what it is given) or a piece of a file. It answers each question with messages of its number: what is under way, pieces
+// that it wants, and then the answer or a fault. Between the steps of a job it looks for the next question, which ends the one before.
 
+import { PageFile, take_piece } from './files.js';
 import { forecast_job, why_job, advice_job } from './forecasts.js';
-import { begin_program, run_program } from './program.js';
-import { recording_job, example_recording_job } from './recordings.js';
-import { example_store_job, store_job, streams_job } from './stores.js';
+import { begin_program, is_large, run_program } from './program.js';
+import { recording_job } from './recordings.js';
+import { store_job, streams_job } from './stores.js';
 
 const JOBS = {
-  *start() {
-    return {};
-  },
   *run({ words, inputs }) {
     return run_program(words, inputs);
   },
@@ -19,17 +17,15 @@ const JOBS = {
   advice: advice_job,
   store: store_job,
   streams: streams_job,
-  example_store: example_store_job,
   recording: recording_job,
-  example_recording: example_recording_job,
 };
 
-let latest = 0, begun = null;
+let latest = 0;
 
 // The memory of all lists in an answer, which is handed over and not copied.
 function memory_of(answer, found = new Set()) {
   if (ArrayBuffer.isView(answer)) found.add(answer.buffer);
-  else if (answer && typeof answer === 'object' && !(answer instanceof Blob)) Object.values(answer).forEach((value) => memory_of(value, found));
+  else if (answer && typeof answer === 'object') Object.values(answer).forEach((value) => memory_of(value, found));
   return found;
 }
 
@@ -39,15 +35,14 @@ function pause() {
   });
 }
 
-// Does a job, step by step; tells whether it was done, and not ended by a later question.
-async function work({ number, name, given }) {
-  await begun;
-  const steps = JOBS[name](given);
+// Does a job, step by step, unless a later question ends it.
+async function work({ number, name, given, files }) {
+  const steps = JOBS[name]({ ...given, files: files.map((file) => new PageFile(number, file)) });
   for (;;) {
     const step = await steps.next();
     if (number !== latest) return;
     if (step.done) {
-      postMessage({ number, answer: step.value }, [...memory_of(step.value)]);
+      postMessage({ number, answer: step.value, is_large: is_large() }, [...memory_of(step.value)]);
       return;
     }
     postMessage({ number, told: step.value ?? {} });
@@ -57,10 +52,10 @@ async function work({ number, name, given }) {
 }
 
 addEventListener('message', ({ data }) => {
-  if (data.module) {
-    begun = begin_program(data.module);
-    return;
+  if (data.module) begin_program(data.module);
+  else if (!data.name) take_piece(data);
+  else {
+    latest = data.number;
+    work(data).catch((fault) => postMessage({ number: data.number, fault: String(fault.message ?? fault) }));
   }
-  latest = data.number;
-  work(data).catch((fault) => postMessage({ number: data.number, fault: String(fault.message ?? fault) }));
 });
