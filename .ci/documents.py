@@ -9,10 +9,7 @@ import tempfile
 import time
 import xml.etree.ElementTree as xml
 
-import auditor
-import calls
 import names
-import places
 import page
 from table import table
 
@@ -184,21 +181,6 @@ def names_are_found():
     return "; ".join(names.unknown()) or None
 
 
-def places_are_told():
-    """The places of a verb and a key in CONTRIBUTING.md are those of the sources."""
-    return places.differences()
-
-
-def auditor_is_told():
-    """Whether docs/HEADLINE.md lists every definition on which the headline stands."""
-    return auditor.differences()
-
-
-def calls_are_told():
-    """Whether docs/CALLING.md has the form of each public call."""
-    return calls.differences()
-
-
 def page_agrees():
     """Whether the manual page, docs/OPERATING.md and README.md have what the program's help has."""
     return "; ".join(page.differences()) or None
@@ -210,9 +192,8 @@ def tries():
         ("the picture table.svg", lambda: is_held("table.svg", draw_table(*sample()))), ("tables", draws_tables),
         ("pictures of each line", draws_each), ("pictures of many packets", draws_many), ("pictures of forecasts", draws_forecasts), ("refused listings and forecasts", refuses),
         ("the caller that is shown", quotes_the_caller),
-        ("laws, clauses and definitions of the documents", names_are_found), ("the form of each public call", calls_are_told), ("what an auditor reads", auditor_is_told),
-        ("the places of a verb and a key", places_are_told),
-        ("help, manual page and README", page_agrees)]
+        ("laws, clauses and definitions of the documents", names_are_found),
+        ("help, manual page and README", page_agrees), ("the manual page, by mandoc", page.unclean)]
 
 
 if __name__ == "__main__":

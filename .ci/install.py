@@ -8,12 +8,12 @@ program without a proof.
 import filecmp
 import glob
 import os
+import shutil
 import subprocess
 import sys
 import tempfile
 
 sys.dont_write_bytecode = True
-import needs
 
 TOP = os.path.dirname(os.path.dirname(os.path.abspath(__file__)))
 FILES = {"bin/pocket": 0o755, "share/man/man1/pocket.1": 0o644, "share/bash-completion/completions/pocket": 0o644, "share/zsh/site-functions/_pocket": 0o644}
@@ -53,6 +53,24 @@ def installs(room):
     if found != FILES or told != run(room.program, "--version"):
         return f"it placed {found}, and the program says {told}"
     return None if gone == (0, "") and not left else f"make uninstall ended with {gone}, left are {left}"
+
+
+def tools(room):
+    """Whether `make tools` makes and places what needs no toolchain, and all of it runs there, in the way that it tells."""
+    base, env = f"{room.folder}/tools", {"PATH": "/usr/sbin:/usr/bin:/sbin:/bin", "HOME": room.folder}
+    done = run("make", "-s", "-C", TOP, "tools", f"PREFIX={base}", f"BUILD={room.folder}/tools-build", "CFLAGS=-O0", env=env)
+    module = done[1].strip().rpartition("PYTHONPATH=")[2]
+    if done[0] or not os.path.isdir(f"{module}/pocket"):
+        return f"make tools ended with {done}"
+    env.update(PATH=f"{base}/bin:{env['PATH']}", PYTHONPATH=module, PYTHONDONTWRITEBYTECODE="1")
+    data, faults = f"{TOP}/crates/pocket/data", []
+    for words in ("python3 -m pocket merge hk.store hk.store near=0 | cmp - hk.store", "pocket forecast out=- packets=9 robust=1 plan=pass.csv script=fades.csv | tail -1 | grep -x end,9,9",
+                  "python3 -m pocket advise packets=1000 script=fades.csv rows=8 | grep fr", f"pocket show in=hk.store out=- bits=64 apid=100 | python3 {base}/share/pocket/pictures/draw.py listing | grep svg"):
+        ran = run("sh", "-c", words, env=env, cwd=data)
+        faults += [f"{words}: {ran}"] if ran[0] else []
+    gone = run("make", "-s", "-C", TOP, "uninstall", f"PREFIX={base}", env=env)
+    left = [name for _, _, names in os.walk(base) for name in names]
+    return "; ".join(faults + ([] if gone == (0, "") and not left else [f"{gone}, left are {left}"])) or None
 
 
 def packs(room):
@@ -101,8 +119,8 @@ def places(room):
 
 def c_program(room, root, libraries):
     """What is wrong with the program in C of docs/CALLING.md over the packages."""
-    if not needs.had("pkg-config"):
-        return ["pkg-config can't be had"]
+    if not shutil.which("pkg-config"):
+        return ["pkg-config is not there"]
     with open(f"{TOP}/docs/CALLING.md", encoding="utf-8") as file, open(f"{room.folder}/printed.c", "w", encoding="utf-8") as source:
         source.write(file.read().split("```c\n")[1].split("```")[0])
     env = dict(os.environ, PKG_CONFIG_LIBDIR=f"{libraries}/pkgconfig", PKG_CONFIG_SYSROOT_DIR=root, LD_LIBRARY_PATH=libraries)
@@ -150,12 +168,11 @@ def main():
     library = sys.argv[2] if len(sys.argv) == 3 else f"{TOP}/crates/pocket_c/out/libpocket_c.a"
     with tempfile.TemporaryDirectory(prefix="pocket-install-") as folder:
         room = Room(folder, sys.argv[1], library)
-        for name, attempt, command, package in [("make install-program", installs, "make", "make"), ("the Debian packages", packs, "dpkg-deb", "dpkg"),
-                                                ("the packages in a root", places, "dpkg", "dpkg"), ("lintian", is_clean, "lintian", "lintian"),
-                                                ("make unproved", unproved, "make", "make")]:
-            if not needs.had(command, package):
+        for name, attempt, command in [("make install-program", installs, "make"), ("make tools", tools, "make"), ("the Debian packages", packs, "dpkg-deb"),
+                                       ("the packages in a root", places, "dpkg"), ("lintian", is_clean, "lintian"), ("make unproved", unproved, "make")]:
+            if not shutil.which(command):
                 skipped += 1
-                print(f"skipped: {name} ({command} can't be had)")
+                print(f"skipped: {name} ({command} is not there)")
                 continue
             fault = attempt(room)
             passed, failed = passed + (fault is None), failed + (fault is not None)

@@ -14,7 +14,6 @@ import sys
 import tempfile
 
 sys.dont_write_bytecode = True
-import needs
 
 ROOT = os.path.dirname(os.path.dirname(os.path.abspath(__file__)))
 DATA = os.path.join(ROOT, "crates", "pocket", "data")
@@ -39,14 +38,14 @@ class Room:
     def __init__(self, folder, given, program):
         self.folder, self.program = folder, os.path.abspath(program)
         self.proved = os.path.join(os.path.abspath(given), "libpocket_c.a")
-        self.env = dict(os.environ, PYTHONPATH=os.path.join(ROOT, "library", "python"), POCKET_LIBRARY=self.at("libpocket.so"), PYTHONDONTWRITEBYTECODE="1")
+        self.env = dict(os.environ, PATH=os.path.dirname(self.program) + os.pathsep + os.environ["PATH"], PYTHONPATH=os.path.join(ROOT, "library", "python"), POCKET_LIBRARY=self.at("libpocket.so"), PYTHONDONTWRITEBYTECODE="1")
 
     def at(self, name):
         return os.path.join(self.folder, name)
 
-    def run(self, *words, given=b"", cwd=ROOT):
+    def run(self, *words, given=b"", cwd=ROOT, timeout=300):
         """What a command writes; one that does not end with 0 is an error."""
-        found = subprocess.run(words, input=given, capture_output=True, env=self.env, cwd=cwd, timeout=300)
+        found = subprocess.run(words, input=given, capture_output=True, env=self.env, cwd=cwd, timeout=timeout)
         if found.returncode:
             raise RuntimeError(f"{words[0]} ended with {found.returncode}: {(found.stdout + found.stderr)[-400:]!r}")
         return found.stdout
@@ -79,7 +78,10 @@ def builds(room):
     if missing:
         return f"{missing} are missing"
     with open(room.at("root/usr/lib/pkgconfig/pocket.pc")) as file, open(os.path.join(ROOT, "library", "pocket.h")) as header:
-        version = re.search(r"^Version: (.+)$", file.read(), re.M)[1]
+        text = file.read()
+        version = re.search(r"^Version: (.+)$", text, re.M)[1]
+        if not re.search(r"^prefix=/usr$", text, re.M):
+            return f"pocket.pc has another prefix than that of its installation: {text}"
         if f'#define POCKET_VERSION "{version}"' not in header.read():
             return f"pocket.h is not of the version {version}"
     room.make("uninstall", "DESTDIR=" + room.at("root"), "PREFIX=/usr")
@@ -110,7 +112,7 @@ def by_pip(room):
     """Whether `pip install .` brings the library along: into a folder of its own, by Debian's packages, without a registry."""
     python = "/usr/bin/python3"
     for module in ("pip", "setuptools", "wheel"):
-        if subprocess.run([python, "-c", f"import {module}"], capture_output=True).returncode and not needs.module(module):
+        if subprocess.run([python, "-c", f"import {module}"], capture_output=True).returncode:
             raise Skipped(f"python3-{module}")
     copy = room.at("sources")
     shutil.copytree(ROOT, copy, ignore=shutil.ignore_patterns(".git", "out", "crates", "page", "build", "docs"))
@@ -179,6 +181,10 @@ def random_bytes(room):
     return told(room.run(room.compiled("tests/random_bytes.c", "random", "-g", "-fsanitize=address")))
 
 
+def any_states(room):
+    return told(room.run(room.compiled("tests/states.c", "states", "-g", "-O1", "-fsanitize=address"), "20000"))
+
+
 def python_calls(room):
     return told(room.run(sys.executable, os.path.join(ROOT, "library", "tests", "worked.py")))
 
@@ -211,6 +217,16 @@ def frame_headers(room):
     packages = os.path.join(folder, "usr", "lib", "python3", "dist-packages")
     room.env["PYTHONPATH"] += os.pathsep + packages
     return told(room.run(sys.executable, os.path.join(ROOT, "library", "tests", "frames.py"), packages))
+
+
+def fleet(room):
+    """Whether many spacecraft are judged over Redis, each packet once. Debian's modules are those of the system's Python, whichever runs this."""
+    python = "/usr/bin/python3"
+    if not os.path.exists(python) or subprocess.run([python, "-c", "import redis"], capture_output=True).returncode:
+        raise Skipped("python3-redis")
+    if not shutil.which("redis-server"):
+        raise Skipped("redis-server")
+    return told(room.run(python, os.path.join(ROOT, "library", "tests", "fleet.py"), room.program, timeout=3600))
 
 
 def stacks(room):
@@ -264,13 +280,13 @@ def tries():
             + [(f"calls from {'C++' if standard[0] == '-x' else 'C'} by {compiler} {standard[-1]}", lambda room, c=compiler, s=standard: calls(room, c, s)) for compiler, standard in COMPILERS]
             + [("no error under valgrind", lambda room: clean(room, "tests/worked.c", "worked-debug")),
                ("no error under valgrind with memory refused", lambda room: clean(room, "tests/refused_memory.c", "refused-debug", "-Wl,--wrap=malloc,--wrap=realloc,--wrap=free")),
-               ("each allocation refused", refused_memory), ("a million random bytes", random_bytes), ("calls from Python", python_calls),
-               ("misuse from Python", lambda room: tool(room, "misuse")),
+               ("each allocation refused", refused_memory), ("a million random bytes", random_bytes), ("any bytes as a state", any_states), ("calls from Python", python_calls),
+               ("misuse from Python", lambda room: tool(room, "misuse")), ("what comes between calls from Python", lambda room: tool(room, "between")), ("states from Python", lambda room: tool(room, "states")),
                ("the module shows a store", shows), ("records of stations joined", lambda room: tool(room, "merge")),
                ("packets out of frames", lambda room: tool(room, "frames")), ("the headers of 10,000 frames", frame_headers),
                ("tables with numbers and times, and back", lambda room: tool(room, "tables")),
-               ("a schedule for an assumed loss", lambda room: tool(room, "advise")),
-               ("the stack of commands", stacks), ("random histories", histories), ("the examples", examples),
+               ("a schedule for an assumed loss", lambda room: tool(room, "advise")), ("the files of the tools", lambda room: tool(room, "tools")),
+               ("many spacecraft over Redis", fleet), ("the stack of commands", stacks), ("random histories", histories), ("the examples", examples),
                ("the program in C of docs/CALLING.md", lambda room: printed(room, "c")), ("the program in Python of docs/CALLING.md", lambda room: printed(room, "python"))])
 
 

@@ -1,6 +1,6 @@
 #!/usr/bin/env python3
 """Finds the names that README.md and docs/ call laws, clauses and definitions in the sources, and each law as exported. Run alone
-it prints what isn't found."""
+it prints what isn't found; `--list CRATE..` prints the definitions and laws of these crates, or of all, each with its text."""
 
 import pathlib
 import re
@@ -18,6 +18,8 @@ ASIDE = re.compile(rf"\(({LIST})[,;)]")
 PLACED = re.compile(r"`(\w+)`(?: and `(\w+)`)?, (\w+)/(?:specs|src)/(\w+\.\w+)(?: and (\w+\.\w+))?")
 ITEM = re.compile(r"^\s*(?:pub(?:\(crate\))? )?(?:const |unsafe )?(?:fn|struct|enum|trait|type|const|static|ghost) (\w+)", re.M)
 WORD = re.compile(r"^\s*(?:abbrev |unfoldable )?(?:pub )?(?:record |data )?([^\s:(){}]+)(?: \(| :|\s*$| \{)", re.M)
+COMMENTED = re.compile(r"^((?:--(?! ----).*\n)*)(?:abbrev |unfoldable )?pub (?!mod )(?:record |data )?([^\s:(){}=]+)", re.M)
+LAW_TEXT = re.compile(r"^((?:///.*\n)*)pub fn (\w+)(?:<[^>]*>)?\(\)\n", re.M)
 STEP = re.compile(r"\bfn (\w+)|\b(?:ensures|requires)\*? (\w+) \{")
 
 # The pages whose tables and sentences name clauses and laws in parentheses.
@@ -68,10 +70,6 @@ def is_law(name):
     return any(name in LAWS[crate] and name in exported(crate) for crate in CRATES)
 
 
-def is_word(name):
-    return re.fullmatch(r"\w+", name) is not None
-
-
 def unexported():
     """The laws that their crate doesn't give to others."""
     return [f"crates/{crate}/src/lib.rt: {name}" for crate in CRATES for name in sorted(LAWS[crate] - exported(crate))]
@@ -91,23 +89,17 @@ def uncited(page, line):
         yield from (name for name in said if name and name not in defined)
 
 
-def undefined(page):
-    """The names that docs/DEFINITIONS.md has for a crate, and that the crate doesn't define."""
-    crate, found = None, []
-    for number, line in enumerate(page.read_text().splitlines(), 1):
-        if line.startswith("## "):
-            crate = line[3:].strip("` ")
-        cells = [cell.strip() for cell in line.split(" | ")]
-        bold = " ".join(re.findall(r"\*\*(`[^`]+`)\*\*", line)) if line.startswith("- **") else ""
-        said = cells[0] if line.startswith("| `") else bold
-        if crate in CRATES:
-            found += [f"{page.relative_to(ROOT)}:{number}: {name}" for name in names(said) if is_word(name) and name not in DEFINED[crate]]
-    return found
+def listed(crate):
+    """The public definitions and the laws of a crate, each with its file and the comment above it, which is its text."""
+    for file in sorted((CRATES[crate] / "specs").rglob("*.antt")) + sorted((CRATES[crate] / "src").rglob("*.rt")):
+        for comment, name in (COMMENTED if file.suffix == ".antt" else LAW_TEXT).findall(file.read_text()):
+            if file.suffix == ".antt" or name in LAWS[crate]:
+                yield f"{file.relative_to(ROOT / 'crates')}: {name}: {' '.join(line.lstrip('-/ ') for line in comment.splitlines())}"
 
 
 def unknown():
     """What the documents call a law, a clause or a definition, and the sources don't have."""
-    found = unexported() + undefined(ROOT / "docs" / "DEFINITIONS.md")
+    found = unexported()
     for page in PAGES:
         for number, line in enumerate(page.read_text().splitlines(), 1):
             found += [f"{page.relative_to(ROOT)}:{number}: {name}" for name in uncited(page, line)]
@@ -115,6 +107,8 @@ def unknown():
 
 
 if __name__ == "__main__":
+    if sys.argv[1:2] == ["--list"]:
+        sys.exit(print("\n".join(line for crate in CRATES if crate in sys.argv[2:] or not sys.argv[2:] for line in listed(crate))))
     faults = unknown()
     print("\n".join(faults) or "each name is found")
     sys.exit(bool(faults))

@@ -1,14 +1,15 @@
 #!/usr/bin/env python3
 """Holds the manual page, docs/pocket.1, and docs/OPERATING.md to the program's help, which crates/pocket/src/main.rt has: the same verbs,
 each with the same keys, the same ranges and the same exit numbers; README.md has the verbs, and the completions of the shells have the
-verbs with their keys. Run alone, it prints what differs. If `mandoc`
-is there, the page has to be clean for it."""
+verbs with their keys. Run alone, it prints what differs. The manual page is clean for `mandoc`."""
 
 import os
 import re
 import shutil
 import subprocess
 import sys
+
+from runner import Skipped
 
 TOP = os.path.dirname(os.path.dirname(os.path.abspath(__file__)))
 VERB = re.compile(r"pocket ([a-z]+) (.+)")
@@ -104,9 +105,14 @@ def differences():
         yield f"the exit numbers of the page are {listed}, and those of the help {exits}"
     yield from day_lacks(day, verbs, ranges, exits)
     yield from (f"README.md has no verb {verb}" for verb in verbs if f"\n| `{verb}` |" not in readme)
-    if shutil.which("mandoc"):
-        ran = subprocess.run(["mandoc", "-Tlint", os.path.join(TOP, "docs", "pocket.1")], capture_output=True, text=True, check=False)
-        yield from ran.stdout.splitlines()
+
+
+def unclean():
+    """What mandoc says of the manual page, or None."""
+    if not shutil.which("mandoc"):
+        raise Skipped("mandoc is not there")
+    ran = subprocess.run(["mandoc", "-T", "lint", "-W", "all", os.path.join(TOP, "docs", "pocket.1")], capture_output=True, text=True, check=False)
+    return ran.stdout or ran.stderr or (f"it ended with {ran.returncode}" if ran.returncode else None)
 
 
 def main():

@@ -1,25 +1,22 @@
 #!/usr/bin/env python3
 """Tries the completions of bash and zsh in a terminal: a line is typed, then a tab, and what then stands in the line is compared.
 
-.ci/shells.py. Other commands before pocket (sudo, nice) are completed by Debian's bash-completion, which is looked at and not installed.
-What can't be had is skipped, by name; the last line is 'N passed, M failed, K skipped'.
+.ci/shells.py. Other commands before pocket (sudo, nice) are completed by Debian's bash-completion. What is not there (.ci/needs.py) is skipped, by name; the last line is 'N passed, M failed, K skipped'.
 """
 
-import glob
 import os
 import pty
 import re
 import select
-import subprocess
+import shutil
 import sys
 import tempfile
 import time
 
-sys.dont_write_bytecode = True
-import needs
 
 TOP = os.path.dirname(os.path.dirname(os.path.abspath(__file__)))
 LIMIT = 30
+OTHERS = "/usr/share/bash-completion/bash_completion"
 # What is typed, and what stands in the line after a tab. The file recording.bin is there.
 LINES = [("pocket co", "pocket compress "), ("pocket fore", "pocket forecast "), ("pocket --v", "pocket --version "), ("pocket show bi", "pocket show bits="),
          ("pocket show bits=8 bi", "pocket show bits=8 bi"), ("pocket show in=rec", "pocket show in=recording.bin "),
@@ -79,19 +76,15 @@ def in_bash(more, lines):
     return difference(["bash", "--norc", "--noprofile", "-i"], [*more, f"source {TOP}/completions/pocket.bash", *BASH], lines)
 
 
-def after_others(folder):
+def after_others():
     """As in_bash, with bash-completion."""
-    subprocess.run(["apt-get", "-q", "download", "bash-completion"], cwd=folder, stdout=subprocess.DEVNULL, stderr=subprocess.DEVNULL, timeout=300, check=False)
-    for name in glob.glob(f"{folder}/*.deb"):
-        subprocess.run(["dpkg", "-x", name, folder], check=True)
-    main = f"{folder}/usr/share/bash-completion/bash_completion"
-    if not os.path.exists(main):
+    if not os.path.exists(OTHERS):
         raise FileNotFoundError("bash-completion")
-    return in_bash([f"source {main}"], LINES + SPACED + AFTER)
+    return in_bash([f"source {OTHERS}"], LINES + SPACED + AFTER)
 
 
 def in_zsh():
-    if not needs.had("zsh"):
+    if not shutil.which("zsh"):
         raise FileNotFoundError("zsh")
     begun = [f"fpath=({TOP}/completions $fpath)", "autoload -U compinit && compinit -u -D", *ZSH]
     return difference(["zsh", "-f", "-i"], begun, LINES)
@@ -99,18 +92,16 @@ def in_zsh():
 
 def main():
     passed = failed = skipped = 0
-    with tempfile.TemporaryDirectory(prefix="pocket-shells-") as folder:
-        tries = [("bash", lambda: in_bash([], LINES + SPACED)), ("bash after other commands", lambda: after_others(folder)), ("zsh", in_zsh)]
-        for name, attempt in tries:
-            try:
-                fault = attempt()
-            except FileNotFoundError as missing:
-                skipped += 1
-                print(f"skipped: completions of {name} ({missing} can't be had)")
-                continue
-            passed, failed = passed + (fault is None), failed + (fault is not None)
-            if fault:
-                print(f"completions of {name}: {fault}")
+    for name, attempt in [("bash", lambda: in_bash([], LINES + SPACED)), ("bash after other commands", after_others), ("zsh", in_zsh)]:
+        try:
+            fault = attempt()
+        except FileNotFoundError as missing:
+            skipped += 1
+            print(f"skipped: completions of {name} ({missing} is not there)")
+            continue
+        passed, failed = passed + (fault is None), failed + (fault is not None)
+        if fault:
+            print(f"completions of {name}: {fault}")
     print(f"{passed} passed, {failed} failed, {skipped} skipped")
     sys.exit(1 if failed else 0)
 

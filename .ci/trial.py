@@ -1,5 +1,5 @@
 #!/usr/bin/env python3
-"""Prints the summary of a trial, worked out from docs/FORMATS.md and docs/DEFINITIONS.md alone.
+"""Prints the summary of a trial, worked out from docs/FORMATS.md and the texts of definitions alone.
 
 Takes what `pocket trial` takes: .ci/trial.py SEED PACKETS BITS ROBUST. It shares no code with the program: vectors are
 whole numbers here, whose lowest bit is the last place, and of a packet only the length is computed.
