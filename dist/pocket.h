@@ -11,9 +11,8 @@
  * linker, memmove, memset, malloc and free. For x86-64 the library is proved by the gate, and needs a processor of x86-64-v2 (of 2009 and
  * later). For aarch64 it is proved and compiled for that target by the toolchain, outside the gate. For riscv64 it is compiled another
  * way: compared, not proved. So is the one file: its C is made from the library's module, and compared with the library, packet for packet
- * and verdict for verdict, under qemu. LEON itself was not at hand for that: the file was compiled for the instructions of LEON3 (SPARC V8)
- * and run as a SPARC of 32 bits, and on three others with the big end first. Accesses of the library on aarch64 and riscv64 are aligned
- * unless it was built with unaligned=1.
+ * and verdict for verdict, under qemu: with the big end first on LEON3, without an operating system, and on four others; on no board.
+ * Accesses of the library on aarch64 and riscv64 are aligned unless it was built with unaligned=1.
  *
  * A sender makes the packet of each input. A receiver judges each packet that arrives: it gives its content, or why there is
  * none. At a desk in memory the nine commands of the program are run, over bytes that are kept under names. Inputs and contents are
@@ -74,8 +73,7 @@ extern "C" {
 #define POCKET_PACKET_BYTES(bits) ((10u * (size_t)(bits) + 43u + 7u) / 8u)    /* room for each packet's data, at most 61,446 */
 
 /* What a call answers. After each answer but POCKET_DONE nothing has changed: not the handle, nor what a call writes, but for the
- * length that pocket_get and pocket_name_from tell with POCKET_NO_ROOM, the memory that pocket_sender_open_in is given (a mask may be
- * refused after it was written), and after POCKET_BROKEN. */
+ * length that pocket_get and pocket_name_from tell with POCKET_NO_ROOM, and after POCKET_BROKEN. */
 typedef enum pocket_status {
     POCKET_DONE = 0,
     POCKET_NO_MEMORY = 1,       /* malloc gave no memory, or the caller's memory is too small */
@@ -98,9 +96,10 @@ typedef enum pocket_status {
     POCKET_NOT_KEPT = 17,       /* nothing is kept under the name, or under any that is looked for */
     POCKET_APID = 250,          /* of pocket_header: the APID is above 2046 */
     POCKET_NO_DATA = 251,       /* of pocket_header: a Space Packet has a byte of data at least */
-    POCKET_NO_STATE = 252,      /* of the one file: the bytes are no state, but damaged, cut, or of another version of the file */
-    POCKET_OTHER_STATE = 253,   /* of the one file: the state is of the other kind, or of another number of bits */
-    POCKET_BROKEN = 254,        /* of the one file: an access outside the memory of the handle, which can then only be closed */
+    POCKET_NO_STATE = 252,      /* the bytes are no state, but damaged, cut, or of a later version */
+    POCKET_OTHER_STATE = 253,   /* the state is of the other kind, or of another number of bits */
+    POCKET_BROKEN = 254,        /* of the one file: the memory of the handle was damaged, as an access outside it or its head tells; it can
+                                   then only be closed */
     POCKET_NULL = 255           /* a pointer is null; null with the length 0 is no byte */
 } pocket_status;
 
@@ -186,8 +185,29 @@ pocket_status pocket_checked_receive(pocket_handle *handle, uint16_t count, cons
 /* Tells the numbers of a receiver's arrivals so far. Takes no memory. POCKET_IS_CLOSED, OTHER_KIND. */
 pocket_status pocket_checked_counts(pocket_handle *handle, pocket_tally *tally);
 
-/* Tells the number of bits of a sender or a receiver. Takes no memory. POCKET_IS_CLOSED, OTHER_KIND. */
+/* Tells the number of bits of a sender or a receiver. Takes no memory. POCKET_IS_CLOSED, OTHER_KIND; of the one file BROKEN, as each call. */
 pocket_status pocket_checked_bits(pocket_handle *handle, uint32_t *bits);
+
+/* ---- States: what a receiver holds, as bytes from which another one goes on, on any processor ----
+ * A state of version 1 is read by all later releases. A sender's state is given by the one file alone, and read by the same file alone.
+ * The most bytes that a state of so many bits has: as a macro for an array, and by the call, 0 if the bits are not from 1 to 49,152 or there
+ * is no state of that kind. */
+#define POCKET_OF_SENDER 1u
+#define POCKET_OF_RECEIVER 2u
+#define POCKET_RECEIVER_STATE_BYTES(bits) (74u + 3u * POCKET_INPUT_BYTES(bits))
+size_t pocket_state_bytes(uint32_t bits, uint32_t kind);
+
+/* Gives what a receiver holds, as the first *length bytes of state, which has room for the most. Receivers that hold the same have the same
+ * bytes. Takes no memory. POCKET_IS_CLOSED, OTHER_KIND of what has no state, NO_ROOM: the first that is so. */
+pocket_status pocket_checked_save(pocket_handle *handle, uint8_t *state, size_t room, size_t *length);
+
+/* Puts a state in place of what an open handle of its kind and bits holds, which then goes on as the saved one would have. Each receiver's
+ * state that is taken is one that a receiver can hold; the sum at its end finds damage, and doesn't tell who wrote it. A sender's state that
+ * somebody forged leads nowhere outside its memory, unless the file was compiled with POCKET_UNCHECKED. Takes no memory.
+ * A sender that goes on from a state older than its last packet would contradict what it sent: leave out 16 sequence counts (by pocket_sent
+ * and a header of one's own), and ask for the mask and the whole content in the next packet.
+ * POCKET_IS_CLOSED, OTHER_KIND of what has no state, NO_STATE, OTHER_STATE: one that is so. */
+pocket_status pocket_checked_load(pocket_handle *handle, const uint8_t *state, size_t length);
 
 /* Opens a desk at which nothing is kept, and there is no word. Takes memory. POCKET_IS_OPEN, NO_MEMORY. */
 pocket_status pocket_checked_desk_open(pocket_handle *handle);
@@ -209,8 +229,8 @@ pocket_status pocket_checked_word(pocket_handle *handle, const char *word);
  * POCKET_NO_ROOM, IS_CLOSED, OTHER_KIND: the first that is so. */
 pocket_status pocket_checked_run(pocket_handle *handle, char *text, size_t room, size_t *length, uint8_t *exit_number);
 
-/* Gives what is kept under a name, nothing if it was never put or written, in the first *length bytes of bytes. If there is no room for
- * it, *length tells how much is needed. Takes no memory. POCKET_NO_TEXT, IS_CLOSED, OTHER_KIND, NO_ROOM: the first that is so. */
+/* Gives what is kept under a name, no byte if nothing is, in the first *length bytes of bytes. If there is no room for it, *length tells
+ * how much is needed. Takes no memory. POCKET_NO_TEXT, IS_CLOSED, OTHER_KIND, NO_ROOM: the first that is so. */
 pocket_status pocket_checked_get(pocket_handle *handle, const char *name, uint8_t *bytes, size_t room, size_t *length);
 
 /* Removes what is kept at a desk under a name, and gives back the memory of all that was kept under it, also before. Takes no memory.
@@ -235,7 +255,7 @@ const char *pocket_status_text(uint32_t status);
 /* The bytes of memory that an open sender or receiver of so many bits takes, for a static array: those that pocket_sender_bytes and
  * pocket_receiver_bytes give. The calls have a stack of their own in it, deep enough for each; besides it they take C's stack. */
 #define POCKET_STACK_BYTES 1152u
-#define POCKET_FIXED_BYTES (POCKET_STACK_BYTES + 15u + 48u + 64u + 8u)
+#define POCKET_FIXED_BYTES (POCKET_STACK_BYTES + 15u + 48u + 80u + 8u)
 #define POCKET_UP_TO_EIGHT(bytes) (((size_t)(bytes) + 7u) / 8u * 8u)
 #define POCKET_VECTOR_BYTES(bits) (((size_t)(bits) + 63u) / 64u * 8u)
 #define POCKET_SENDER_HEAP(bits) (31u * POCKET_VECTOR_BYTES(bits) + 2u * ((10u * (size_t)(bits) + 43u) / 64u * 8u + 16u) + 1080u)
@@ -245,6 +265,9 @@ const char *pocket_status_text(uint32_t status);
 #define POCKET_RECEIVER_BYTES(bits) \
     (POCKET_FIXED_BYTES + POCKET_RECEIVER_HEAP(bits) + POCKET_UP_TO_EIGHT(POCKET_INPUT_BYTES(bits) + 1u) + \
      POCKET_UP_TO_EIGHT(POCKET_PACKET_BYTES(bits) + 8u))
+
+/* The bytes of a sender's state, all of the same number of bits. */
+#define POCKET_SENDER_STATE_BYTES(bits) (34u + POCKET_SENDER_HEAP(bits))
 
 /* The bytes of memory, or 0 if the number of bits is not from 1 to 49,152. */
 size_t pocket_sender_bytes(uint32_t bits);
@@ -258,19 +281,6 @@ pocket_status pocket_checked_sender_open_in(pocket_handle *handle, void *memory,
 
 /* Opens a receiver in memory of the caller. POCKET_IS_OPEN, BITS, NO_MEMORY if size is below pocket_receiver_bytes(bits). */
 pocket_status pocket_checked_receiver_open_in(pocket_handle *handle, void *memory, size_t size, uint32_t bits);
-
-/* Tells how many bytes the state of an open sender or receiver has, the same for all of its kind and bits. POCKET_IS_CLOSED, BROKEN. */
-pocket_status pocket_checked_state_size(pocket_handle *handle, size_t *size);
-
-/* Gives what a sender or a receiver holds, as the first *length bytes of state: the same bytes on all processors, with a magic, a version,
- * the kind, the bits, and zlib's crc32. POCKET_IS_CLOSED, BROKEN, NO_ROOM. */
-pocket_status pocket_checked_save(pocket_handle *handle, uint8_t *state, size_t room, size_t *length);
-
-/* Puts a state in place of what an open handle of its kind and bits holds, which then goes on as the saved one would have. The sum finds
- * damage, not a forged state: with one nothing outside the memory of the handle is read or written, unless the file was compiled with
- * POCKET_UNCHECKED, which is for states that nobody else wrote.
- * POCKET_IS_CLOSED, BROKEN, NO_STATE, OTHER_STATE: the first that is so. */
-pocket_status pocket_checked_load(pocket_handle *handle, const uint8_t *state, size_t length);
 
 /* ---- Names ----
  * Each call is a function of the library by its checked name, which other languages find too (dlsym, bindgen, cgo, Ada). By its plain name
@@ -298,7 +308,6 @@ uint32_t pocket_bits(pocket_handle *handle, uint32_t *bits);
 uint32_t pocket_close(pocket_handle *handle);
 uint32_t pocket_sender_open_in(pocket_handle *handle, void *memory, size_t size, uint32_t bits, const uint8_t *mask, size_t mask_length);
 uint32_t pocket_receiver_open_in(pocket_handle *handle, void *memory, size_t size, uint32_t bits);
-uint32_t pocket_state_size(pocket_handle *handle, size_t *size);
 uint32_t pocket_save(pocket_handle *handle, uint8_t *state, size_t room, size_t *length);
 uint32_t pocket_load(pocket_handle *handle, const uint8_t *state, size_t length);
 #elif defined(__cplusplus)
@@ -332,7 +341,6 @@ POCKET_NAME(close, (pocket_handle *handle), (handle))
 POCKET_NAME(sender_open_in, (pocket_handle *handle, void *memory, size_t size, uint32_t bits, const uint8_t *mask, size_t mask_length),
             (handle, memory, size, bits, mask, mask_length))
 POCKET_NAME(receiver_open_in, (pocket_handle *handle, void *memory, size_t size, uint32_t bits), (handle, memory, size, bits))
-POCKET_NAME(state_size, (pocket_handle *handle, size_t *size), (handle, size))
 POCKET_NAME(save, (pocket_handle *handle, uint8_t *state, size_t room, size_t *length), (handle, state, room, length))
 POCKET_NAME(load, (pocket_handle *handle, const uint8_t *state, size_t length), (handle, state, length))
 #undef POCKET_NAME
@@ -357,7 +365,6 @@ extern "C" {
 #define pocket_close pocket_checked_close
 #define pocket_sender_open_in pocket_checked_sender_open_in
 #define pocket_receiver_open_in pocket_checked_receiver_open_in
-#define pocket_state_size pocket_checked_state_size
 #define pocket_save pocket_checked_save
 #define pocket_load pocket_checked_load
 #endif
