@@ -38,11 +38,6 @@ counts_length next r =
 pub counts_then : (next : ℕ) (r : Restored) (rest : List ℕ) → counts_bytes next r ++ rest ≡ counts_before next r rest
 counts_then next r rest = simp append_assoc refl
 
--- a number and one more is what comes next
-pub expected_is : (number : Option ℕ) → expected number ≡ number_and_one number
-expected_is None = refl
-expected_is (Some n) = refl
-
 -- what was below what comes next, and what is a number and one more up to it
 pub below_next : (part : Option KnownVector) (next : ℕ) → IfSome (known_number part) (λ t. t < next) → number_and_one (known_number part) ≤ next
 below_next None next below = omega arith

@@ -5,3 +5,4 @@ pub mod Standing
 pub mod StepByStep
 pub mod Moving
 pub mod Unmoved
+pub mod SavedMasks

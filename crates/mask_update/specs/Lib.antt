@@ -1,3 +1,4 @@
 pub mod Histories
 pub mod Masks
+pub mod Saved
 pub mod Worked

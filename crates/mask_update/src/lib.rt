@@ -3,6 +3,7 @@
 
 mod laws;
 mod masks;
+mod saved;
 
 pub use laws::{
     earlier_steps_stay, histories_of_inputs, new_mask_steps, places_of_masks, recurrences,

@@ -1,14 +1,18 @@
 //! The running vectors.
 
-ghost use Rattle.std.specs.Prelude.{◌≡◌, ◌+◌, ◌-◌, ◌*◌, ◌/◌, ◌%◌, ◌<◌, ◌≤◌, ◌==◌, ◌&&◌, ◌↔◌, true, false, length, replicate, Contains, IsTrue, IfOk};
+ghost use Rattle.std.specs.Prelude.{◌≡◌, ℕ, List, [], None, IfSome, ◌+◌, ◌-◌, ◌*◌, ◌/◌, ◌%◌, ◌<◌, ◌≤◌, ◌==◌, ◌&&◌, ◌↔◌, true, false, length, replicate, Contains, IsTrue, IfOk};
 ghost use Rattle.std.specs.Bool.{OnFalse, OnTrue};
 ghost use Rattle.std.specs.Int.{bit_at};
 ghost use Rattle.mask_update.specs.Histories.{History, Step, latest_step, no_steps, with_step};
-ghost use Rattle.bit_vectors.specs.Vectors.{IsVector, NoneIsOne, xor_bits};
+ghost use Rattle.state_bytes.specs.Parts.{Puts};
+ghost use Rattle.mask_update.specs.Saved.{BeginsRunning, IsRunning, running_before, running_room};
+ghost use Rattle.bit_vectors.specs.Vectors.{IsPlaces, IsVector, NoneIsOne, xor_bits};
 ghost use Rattle.bit_vectors.specs.Words.{word_count, HasNoSpareBit};
-ghost use Rattle.mask_update.specs.Masks.{Advances, ComesAgain, HaveMoved, StandsFor, Walked, build_at, change_at, mask_at};
+ghost use Rattle.mask_update.specs.Masks.{Advances, ComesAgain, HaveMoved, Running, StandsFor, Walked, build_at, change_at, mask_at};
 
+use crate::saved::{byte_of, pass_four, take_counted};
 use bit_vectors::{Bits, NoMemory};
+use state_bytes::{put, put_number, put_vector, take_vector};
 use std::alloc::Global;
 use std::marker::Model;
 
@@ -282,5 +286,58 @@ impl Masks {
         ensures most { result ≤ 4294967296 }
     {
         self.taken
+    }
+
+    /// What follows the running vectors of `f` places that the bytes begin with. None: they begin with none.
+    pub fn pass(f: u32, bytes: &[u8]) -> Option<&[u8]>
+        requires valid { IsPlaces f }
+        ensures some { IfSome result (λ rest. (m : Running) × BeginsRunning f m bytes.now rest.now) }
+        ensures all { (m : Running) (rest : List ℕ) → BeginsRunning f m bytes.now rest
+            → IfSome result (λ after. after.now ≡ rest) }
+        ensures none { (m : Running) (rest : List ℕ) → BeginsRunning f m bytes.now rest
+            → result ≡ None → ⊥ }
+    {
+        let Some((taken, again, rest)) = take_counted(bytes) else {
+            return None;
+        };
+        if taken > 4294967296 || again > 1 {
+            return None;
+        }
+        pass_four(rest, f)
+    }
+
+    /// Writes the bytes of the running vectors at this place, and tells the place after them.
+    pub fn save(&self, out: &mut [u8], at: usize) -> usize
+        requires { at + running_room (length self.now.mask) ≤ length out.old }
+        ensures saved { Puts out.old out.new at (running_before self.now []) result }
+        ensures valid { IsRunning (length self.now.mask) self.now }
+    {
+        let at = put_number(out, at, self.taken);
+        let at = put(out, at, &[byte_of(self.again)]);
+        let at = put_vector(out, at, &self.previous);
+        let at = put_vector(out, at, &self.build);
+        let at = put_vector(out, at, &self.mask);
+        put_vector(out, at, &self.change)
+    }
+
+    /// Become the running vectors that the bytes begin with, and tell what follows them.
+    pub fn load<'a>(&mut self, bytes: &'a [u8]) -> &'a [u8]
+        requires { (m : Running) × (rest : List ℕ) × BeginsRunning (length self.old.mask) m bytes.now rest }
+        ensures loaded { (m : Running) (rest : List ℕ) → BeginsRunning (length self.old.mask) m bytes.now rest
+            → (self.new ≡ m) × (result.now ≡ rest) }
+        ensures places { length self.new.mask ≡ length self.old.mask }
+        ensures most { self.new.taken ≤ 4294967296 }
+    {
+        let Some((taken, again, rest)) = take_counted(bytes) else {
+            unreachable!();
+        };
+        let rest = take_vector(rest, &mut self.previous);
+        let rest = take_vector(rest, &mut self.build);
+        let rest = take_vector(rest, &mut self.mask);
+        let rest = take_vector(rest, &mut self.change);
+        self.still = self.change.is_zero();
+        self.again = again == 1;
+        self.taken = taken;
+        rest
     }
 }

@@ -1,7 +1,8 @@
 -- What is amiss with a mask or an input that has no spare bit.
-use Rattle.std.proofs.Common.{◌≡◌, ℕ, ◌≤◌, ◌^◌, true, false, List, length, drop, refl, Option, Some, None, arith, inl, inr}
+use Rattle.std.proofs.Common.{◌≡◌, ◌↔◌, ℕ, ◌≤◌, ◌^◌, Bool, true, false, IsTrue, List, length, drop, refl, sym, Option, Some, None, arith, inl, inr}
 use Rattle.std.specs.Prelude.{Contains, nat_lt, if◌then◌else◌}
-use Rattle.std.proofs.lemmas.Bool.{cases_Bool, eq-eqb, le-ltb, ne_eqb}
+use Rattle.std.proofs.lemmas.Bool.{cases_Bool, eq-eqb, false≢true, le-ltb, ne_eqb}
+use Rattle.std.proofs.lemmas.List.Folds.{list_any_at}
 use Rattle.bit_vectors.specs.Vectors.{bits_of, byte_count, has_spare_bit}
 use Rattle.bit_vectors.proofs.Lists.{one_in}
 use Rattle.packet_calls.specs.declared.fault.SendFault.{SendFault}
@@ -14,6 +15,12 @@ no_spare_bit f bytes none = elim (cases_Bool (has_spare_bit f bytes)) [
   | inl any ↦ absurd (none (one_in (drop f (bits_of bytes)) any))
   | inr other ↦ other
 ]
+
+pub spare_bit-is : (f : ℕ) (bytes : List ℕ) (found : Bool) → (IsTrue found ↔ Contains (drop f (bits_of bytes)) true) → found ≡ has_spare_bit f bytes
+spare_bit-is f bytes true told =
+    let one = told.0 refl in
+    sym (list_any_at (λ (bit : Bool). bit) (drop f (bits_of bytes)) one.0 true one.1 one.2)
+spare_bit-is f bytes false told = sym (no_spare_bit f bytes (λ one. absurd (false≢true (told.1 one))))
 
 -- a mask is given, and a bit of it that belongs to no place is 1
 abbrev pub HasSpareBit : ℕ → Option (List ℕ) → Type 0

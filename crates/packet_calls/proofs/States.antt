@@ -1,11 +1,14 @@
--- States of receivers.
-use Rattle.std.proofs.Common.{◌≡◌, ℕ, ◌+◌, ◌*◌, ◌≤◌, Bool, List, ◌∷◌, ◌++◌, length, refl, sym, ap, subst, ◌∙◌, arith, inl, inr}
+-- States of senders and receivers.
+use Rattle.std.proofs.Common.{◌≡◌, ℕ, ◌+◌, ◌*◌, ◌<◌, ◌≤◌, Bool, List, ◌∷◌, ◌++◌, length, take, refl, sym, ap, subst, ◌∙◌, arith, inl, inr}
 use Rattle.std.proofs.lemmas.List.{length-append}
-use Rattle.bit_vectors.specs.Vectors.{byte_count}
-use Rattle.state_bytes.specs.Frames.{IsFrame, IsOther, frame}
-use Rattle.state_bytes.specs.Parts.{number_bytes, vector_part}
-use Rattle.state_bytes.proofs.Frames.{frames_agree}
+use Rattle.bit_vectors.specs.Vectors.{IsPlaces, byte_count}
+use Rattle.state_bytes.specs.Frames.{IsFrame, IsOther, frame, head, sealed}
+use Rattle.state_bytes.specs.Parts.{Puts, number_bytes, vector_part}
+use Rattle.state_bytes.proofs.Frames.{Puts-frame, frames_agree}
 use Rattle.state_bytes.proofs.Parts.{length-number_bytes, vector_part_size}
+use Rattle.packet_encode.specs.Encoder.{EncoderState}
+use Rattle.packet_encode.specs.Saved.{AreOfEncoder, encoder_bytes}
+use Rattle.packet_encode.proofs.SavedEncoders.{encoders_agree}
 use Rattle.packet_decode.specs.Decoding.{Decoding, latest_content, latest_mask, latest_mask_number, latest_number}
 use Rattle.packet_decode.specs.Saved.{IsDecoding, decoding_bytes, number_and_one, numbers_before, three_parts}
 use Rattle.packet_decode.proofs.SavedDecoders.{three_of}
@@ -13,13 +16,41 @@ use Rattle.ground_chain.specs.Numbers.{expected}
 use Rattle.ground_chain.specs.Reckoning.{Reckoning}
 use Rattle.ground_chain.specs.Saved.{AreOfReckoning, IsReckoning, reckoning_bytes}
 use Rattle.ground_chain.proofs.SavedReckonings.{counted, counts_size, reckonings_agree}
-use Rattle.packet_calls.specs.States.{AreOfReceiver, IsReceiverState, receiver_kind, receiver_state}
+use Rattle.packet_calls.specs.States.{AreOfReceiver, AreOfSender, IsReceiverState, IsSenderState, receiver_kind, receiver_state, sender_kind, sender_state}
+
+pub framed_of : (kind f places : ℕ) (state body : List ℕ) → kind < 256 → IsPlaces f → places ≡ f → state ≡ frame kind places body → IsFrame state kind f body
+framed_of kind f places state body byte valid e is =
+    let most = valid.1 in
+    record { kind_byte = byte; places = omega (arith, most); is = is ∙ ap (λ n. frame kind n body) e }
+
+-- ---- senders
+
+pub frame_of_sender : (f : ℕ) (e : EncoderState) (state : List ℕ) → IsSenderState f e → state ≡ sender_state e → IsFrame state sender_kind f (encoder_bytes e)
+unfolding sender_state
+frame_of_sender f e state valid is = framed_of sender_kind f (length e.masks.mask) state (encoder_bytes e) (omega arith) valid.masks.vector valid.masks.mask is
+
+pub sender_of_body : (f : ℕ) (state body : List ℕ) → IsFrame state sender_kind f body → AreOfEncoder f body → AreOfSender f state
+unfolding sender_state
+sender_of_body f state body framed saved =
+    let places = sym saved.valid.masks.mask in
+    let bytes = saved.bytes_are in
+    record { sender = saved.encoder; valid = saved.valid; state_is = framed.is ∙ (λ i. frame sender_kind (places i) (bytes i)) }
+
+pub body_of_sender : (f : ℕ) (e : EncoderState) (state body : List ℕ) → IsFrame state sender_kind f body → IsSenderState f e → state ≡ sender_state e → body ≡ encoder_bytes e
+body_of_sender f e state body framed valid is = (frames_agree _ _ _ _ state body (encoder_bytes e) framed (frame_of_sender f e state valid is)).2
+
+pub sender_to_body : (f : ℕ) (state body : List ℕ) → IsFrame state sender_kind f body → AreOfSender f state → AreOfEncoder f body
+sender_to_body f state body framed saved = record { encoder = saved.sender; valid = saved.valid; bytes_are = body_of_sender f saved.sender state body framed saved.valid saved.state_is }
+
+pub senders_agree : (f : ℕ) (a b : EncoderState) → IsSenderState f a → IsSenderState f b → sender_state a ≡ sender_state b → a ≡ b
+senders_agree f a b first second e =
+    encoders_agree f a b first second (body_of_sender f b (sender_state a) (encoder_bytes a) (frame_of_sender f a (sender_state a) first refl) second e)
+
+-- ---- receivers
 
 pub frame_of : (f : ℕ) (r : Reckoning) (state : List ℕ) → IsReceiverState f r → state ≡ receiver_state r → IsFrame state receiver_kind f (reckoning_bytes r)
 unfolding receiver_state
-frame_of f r state valid is =
-    let most = valid.decoding.vector.1 in
-    record { kind_byte = omega arith; places = omega (arith, most); is = is ∙ ap (λ n. frame receiver_kind n (reckoning_bytes r)) valid.decoding.places }
+frame_of f r state valid is = framed_of receiver_kind f r.reception.decoder.places state (reckoning_bytes r) (omega arith) valid.decoding.vector valid.decoding.places is
 
 pub of_body : (f : ℕ) (state body : List ℕ) → IsFrame state receiver_kind f body → AreOfReckoning f body → AreOfReceiver f state
 unfolding receiver_state
@@ -28,12 +59,17 @@ of_body f state body framed saved =
     let bytes = saved.bytes_are in
     record { receiver = saved.reckoning; valid = saved.valid; state_is = framed.is ∙ (λ i. frame receiver_kind (places i) (bytes i)) }
 
-pub to_body : (f : ℕ) (state body : List ℕ) → IsFrame state receiver_kind f body → AreOfReceiver f state → AreOfReckoning f body
-to_body f state body framed saved =
-    record { reckoning = saved.receiver; valid = saved.valid; bytes_are = (frames_agree _ _ _ _ state body (reckoning_bytes saved.receiver) framed (frame_of f saved.receiver state saved.valid saved.state_is)).2 }
-
 pub body_is : (f : ℕ) (r : Reckoning) (state body : List ℕ) → IsFrame state receiver_kind f body → IsReceiverState f r → state ≡ receiver_state r → body ≡ reckoning_bytes r
 body_is f r state body framed valid is = (frames_agree _ _ _ _ state body (reckoning_bytes r) framed (frame_of f r state valid is)).2
+
+pub to_body : (f : ℕ) (state body : List ℕ) → IsFrame state receiver_kind f body → AreOfReceiver f state → AreOfReckoning f body
+to_body f state body framed saved = record { reckoning = saved.receiver; valid = saved.valid; bytes_are = body_is f saved.receiver state body framed saved.valid saved.state_is }
+
+pub receivers_agree : (f : ℕ) (a b : Reckoning) → IsReceiverState f a → IsReceiverState f b → receiver_state a ≡ receiver_state b → a ≡ b
+receivers_agree f a b first second e =
+    reckonings_agree f a b first second (body_is f b (receiver_state a) (reckoning_bytes a) (frame_of f a (receiver_state a) first refl) second e)
+
+-- ---- both
 
 pub not_other : (kind f : ℕ) (state body : List ℕ) → IsFrame state kind f body → IsOther kind f state → ⊥
 not_other kind f state body framed other =
@@ -43,11 +79,11 @@ not_other kind f state body framed other =
       | inr places_differ ↦ places_differ (sym same.1)
     ]
 
--- ---- two receivers with one state
-
-pub receivers_agree : (f : ℕ) (a b : Reckoning) → IsReceiverState f a → IsReceiverState f b → receiver_state a ≡ receiver_state b → a ≡ b
-receivers_agree f a b first second e =
-    reckonings_agree f a b first second (body_is f b (receiver_state a) (reckoning_bytes a) (frame_of f a (receiver_state a) first refl) second e)
+-- the whole state is written
+pub whole : (kind f g from end last : ℕ) (body seen o p q s : List ℕ) → f ≡ g → body ≡ seen → Puts o p 0 (head kind f) from → Puts p q from body end → Puts q s 0 (sealed (take end q)) last → end + 4 ≤ length o
+    → Puts o s 0 (frame kind g seen) last
+whole kind f g from end last body seen o p q s places same first second third most =
+    subst (λ (xs : List ℕ). Puts o s 0 xs last) (λ i. frame kind (places i) (same i)) (Puts-frame kind f o p q s body from end last first second third most)
 
 -- ---- how long a state is
 

@@ -6,6 +6,7 @@ ghost use Rattle.bit_vectors.specs.Vectors.{AreBytes, vector_bytes};
 ghost use Rattle.mask_update.specs.Histories.{History, IsValid, history_of, input_at, no_steps};
 ghost use Rattle.packet_decode.specs.Histories.{is_content_told, true_state};
 ghost use Rattle.packet_encode.specs.Deliveries.{WrittenAt, arrivals};
+ghost use Rattle.packet_encode.specs.Encoder.{EncoderState, StandsFor};
 ghost use Rattle.packet_encode.specs.Packets.{with_next_input};
 ghost use Rattle.packet_store.specs.SpacePackets.{period, space_packet};
 ghost use Rattle.packet_store.specs.Walks.{walk};
@@ -16,7 +17,7 @@ ghost use Rattle.ground_chain.specs.Deliveries.{arrival_at};
 ghost use Rattle.ground_chain.specs.Numbers.{number_after};
 ghost use Rattle.ground_chain.specs.Reception.{next_judged};
 ghost use Rattle.ground_chain.specs.Reckoning.{HasJudged, Reckoning, next_run};
-ghost use Rattle.packet_calls.specs.States.{AreOfReceiver, IsReceiverState, receiver_state};
+ghost use Rattle.packet_calls.specs.States.{AreOfReceiver, AreOfSender, IsReceiverState, IsSenderState, receiver_state, sender_state};
 ghost use Rattle.ground_chain.specs.Report.{restored_of, run_bytes, run_report, run_rows, verdict_rows, written_bytes};
 ghost use Rattle.ground_chain.specs.Restoring.{arrivals_of, restore_course};
 ghost use Rattle.ground_chain.specs.Run.{Arrival, run};
@@ -114,4 +115,18 @@ pub fn loaded_receivers_go_on()
         → HasJudged f arrivals saved → HasJudged f arrivals loaded }
     ensures after { (f : ℕ) (before after : List Arrival) (saved : Reckoning) → HasJudged f before saved
         → run f (before ++ after) ≡ run f before ++ next_run saved after }
+{}
+
+/// A state of a sender is that of one value: senders with one state hold the same, and each state of a sender is taken up.
+pub fn senders_are_their_states()
+    ensures same { (f : ℕ) (a b : EncoderState) → IsSenderState f a → IsSenderState f b
+        → sender_state a ≡ sender_state b → a ≡ b }
+    ensures taken { (f : ℕ) (e : EncoderState) → IsSenderState f e → AreOfSender f (sender_state e) }
+{}
+
+/// A sender that took up a state goes on as the saved one would: it stands for each history for which that one stood.
+pub fn loaded_senders_go_on()
+    ensures { (f : ℕ) (saved loaded : EncoderState) (h : History) → IsSenderState f saved
+        → IsSenderState f loaded → sender_state loaded ≡ sender_state saved
+        → StandsFor h saved → StandsFor h loaded }
 {}

@@ -9,9 +9,9 @@ mod sender;
 
 pub use fault::{LoadFault, OpenFault, ReceiveFault, SendFault};
 pub use laws::{
-    deliveries_are_received, loaded_receivers_go_on, receivers_are_their_states,
-    sent_inputs_are_received, sent_packets_are_stored, vectors_are_their_bytes,
-    verdicts_are_those_of_restoring,
+    deliveries_are_received, loaded_receivers_go_on, loaded_senders_go_on,
+    receivers_are_their_states, senders_are_their_states, sent_inputs_are_received,
+    sent_packets_are_stored, vectors_are_their_bytes, verdicts_are_those_of_restoring,
 };
 pub use receiver::{RECEIVER_KIND, Receiver, receiver_state_room};
-pub use sender::{Sender, Sent};
+pub use sender::{SENDER_KIND, Sender, Sent, sender_state_room};

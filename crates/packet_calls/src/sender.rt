@@ -1,26 +1,40 @@
 //! The sending end.
 
-ghost use Rattle.std.specs.Prelude.{◌≡◌, ◌+◌, ◌*◌, ◌<◌, ◌≤◌, Err, None, length, drop, take, IsTrue, IfOk, OnOk, OnErr};
-ghost use Rattle.bit_vectors.specs.Vectors.{IsPlaces, byte_count, has_spare_bit};
+ghost use Rattle.std.specs.Prelude.{◌≡◌, ◌↔◌, ◌+◌, ◌<◌, ◌≤◌, ◌++◌, Err, Ok, None, length, drop, take, IsTrue, IfSome, IfOk, OnOk, OnErr};
+ghost use Rattle.bit_vectors.specs.Vectors.{IsPlaces, byte_count};
 ghost use Rattle.mask_update.specs.Histories.{History, no_steps};
-ghost use Rattle.packet_encode.specs.Encoder.{StandsFor};
+ghost use Rattle.packet_encode.specs.Encoder.{EncoderState, StandsFor};
 ghost use Rattle.packet_encode.specs.Packets.{with_next_input};
 ghost use Rattle.robust_window.specs.Histories.{level_at};
 ghost use Rattle.flight_chain.specs.Stores.{data_at};
 ghost use Rattle.packet_calls.specs.Sending.{first_mask, given_mask, mask_fits, mask_has_spare_bit, room_bits, room_bytes, vector_in};
 ghost use Rattle.packet_calls.specs.Refusals.{fault_in, opening_fault, sending_fault};
+ghost use Rattle.packet_calls.specs.States.{AreOfSender, IsSenderState, sender_kind, sender_state, sender_state_room};
+ghost use Rattle.state_bytes.specs.Frames.{IsOther};
 
-use crate::fault::{OpenFault, SendFault};
-use bit_vectors::{BitEye, BitPen, Bits, Flags, byte_len};
+use crate::fault::{LoadFault, OpenFault, SendFault};
+use bit_vectors::{BitPen, Bits, Flags, byte_len, has_spare_bit};
 use packet_encode::{Encoder, room};
+use state_bytes::{FRAME_BYTES, FrameFault, body_of, put_head, seal};
 use std::alloc::Global;
 use std::marker::Model;
+
+/// The kind of a sender in its state.
+pub const SENDER_KIND: u8 = 1;
 
 /// The greatest required robustness.
 const MOST_ROBUST: u8 = 7;
 
 /// The most packets that a sender makes.
 const MOST_PACKETS: u64 = 4294967296;
+
+/// The most bytes that the state of a sender has, with inputs of this many places.
+pub fn sender_state_room(places: u32) -> usize
+    requires valid { IsPlaces places }
+    ensures { result ≡ sender_state_room places }
+{
+    FRAME_BYTES + 12 + 21 * (byte_len(places) as usize + 1)
+}
 
 /// What was sent.
 #[derive(Clone, Copy, Debug, PartialEq, Eq)]
@@ -162,6 +176,58 @@ impl Sender {
         Ok(())
     }
 
+    /// The most bytes that its state has.
+    pub fn state_room(&self) -> usize
+        ensures { result ≡ sender_state_room (length self.now.encoder.masks.mask) }
+    {
+        sender_state_room(self.places())
+    }
+
+    /// Writes its state into the first bytes of `out`, and tells how many they are. None: the longest state would not fit.
+    pub fn save(&self, out: &mut [u8]) -> Option<usize>
+        ensures room { (result ≡ None) ↔ (length out.old < sender_state_room (length self.now.encoder.masks.mask)) }
+        ensures untouched { result ≡ None → out.new ≡ out.old }
+        ensures length { IfSome result (λ size. size ≡ length (sender_state self.now.encoder)) }
+        ensures state { IfSome result (λ size. out.new ≡ sender_state self.now.encoder ++ drop size out.old) }
+        ensures valid { IfSome result
+            (λ _. IsSenderState (length self.now.encoder.masks.mask) self.now.encoder) }
+    {
+        if out.len() < self.state_room() {
+            return None;
+        }
+        let from = put_head(out, SENDER_KIND, self.places());
+        let end = self.encoder.save(out, from);
+        Some(seal(out, end))
+    }
+
+    /// Becomes the sender with this state, in the memory that it has.
+    pub fn load(&mut self, state: &[u8]) -> Result<(), LoadFault>
+        // It is done exactly if the bytes are the state of some sender with inputs of as many places.
+        ensures exact { (result ≡ Ok tt) ↔ AreOfSender (length self.old.encoder.masks.mask) state.now }
+        ensures loaded { OnOk result (sender_state self.new.encoder ≡ state.now) }
+        ensures same { (e : EncoderState) → IsSenderState (length self.old.encoder.masks.mask) e
+            → state.now ≡ sender_state e → self.new.encoder ≡ e }
+        ensures other { (result ≡ Err LoadFault.OtherState)
+            ↔ IsOther sender_kind (length self.old.encoder.masks.mask) state.now }
+        ensures unchanged { OnErr result (self.new ≡ self.old) }
+        ensures places { length self.new.encoder.masks.mask ≡ length self.old.encoder.masks.mask }
+        // No memory is taken: the room stays.
+        ensures room { self.new.room ≡ self.old.room }
+    {
+        let places = self.places();
+        match body_of(SENDER_KIND, places, state) {
+            Err(FrameFault::NoState) => Err(LoadFault::NoState),
+            Err(FrameFault::OtherState) => Err(LoadFault::OtherState),
+            Ok(body) => {
+                if !Encoder::is_saved(places, body) {
+                    return Err(LoadFault::NoState);
+                }
+                self.encoder.load(body);
+                Ok(())
+            }
+        }
+    }
+
     /// The number of places of the vectors.
     pub fn places(&self) -> u32
         ensures places { result ≡ length self.now.encoder.masks.mask }
@@ -228,25 +294,9 @@ fn mask_has_spare_bit(places: u32, mask: Option<&[u8]>) -> bool
     ensures { result ≡ mask_has_spare_bit places (given_mask mask.entry) }
 {
     match mask {
-        Some(bytes) => has_spare_bit(places, bytes),
+        Some(bytes) => has_spare_bit(bytes, places),
         None => false,
     }
-}
-
-/// Whether a bit after the first `places` is 1.
-fn has_spare_bit(places: u32, bytes: &[u8]) -> bool
-    requires few { length bytes.now ≤ 65536 }
-    requires long { places ≤ 8 * length bytes.now }
-    ensures { result ≡ has_spare_bit places bytes.now }
-{
-    let mut eye = BitEye::new(bytes);
-    eye.pass(places);
-    'bits: while let Some(bit) = eye.take() {
-        if bit {
-            return true;
-        }
-    }
-    false
 }
 
 /// Whether no mask is given, or one that has as many bytes as its places need.

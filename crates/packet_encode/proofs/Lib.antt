@@ -4,3 +4,4 @@ pub mod Earlier
 pub mod Deliveries
 pub mod OfHistories
 pub mod Plain
+pub mod SavedEncoders

@@ -1,4 +1,5 @@
 pub mod Encoder
+pub mod Saved
 pub mod Forms
 pub mod Packets
 pub mod Deliveries

@@ -7,7 +7,9 @@ ghost use Rattle.mask_update.specs.Histories.{History, flags_after, no_steps};
 ghost use Rattle.mask_update.specs.Masks.{StandsFor as MasksStandFor};
 ghost use Rattle.robust_window.specs.Changes.{MaskStep};
 ghost use Rattle.robust_window.specs.Window.{IsNextStep, StandsFor as WindowStandsFor};
-ghost use Rattle.packet_encode.specs.Encoder.{HavePlaces, StandsFor, plain_data};
+ghost use Rattle.packet_encode.specs.Encoder.{EncoderState, HavePlaces, StandsFor, plain_data};
+ghost use Rattle.packet_encode.specs.Saved.{AreOfEncoder, IsEncoderState, encoder_bytes, encoder_room};
+ghost use Rattle.state_bytes.specs.Parts.{Puts};
 ghost use Rattle.packet_encode.specs.Forms.{form_bits};
 ghost use Rattle.packet_encode.specs.Packets.{form_at, form_of, packet_at, with_next_input};
 ghost use Rattle.robust_window.specs.Histories.{level_at};
@@ -139,6 +141,39 @@ impl Encoder {
             );
             self.is_kept = false;
         }
+    }
+
+    /// Whether these are the bytes of an encoder of inputs of `f` places.
+    pub fn is_saved(f: u32, bytes: &[u8]) -> bool
+        requires valid { IsPlaces f }
+        ensures { IsTrue result ↔ AreOfEncoder f bytes.now }
+    {
+        match Masks::pass(f, bytes) {
+            Some(rest) => Window::is_saved(f, rest),
+            None => false,
+        }
+    }
+
+    /// Writes its bytes at this place, and tells the place after them.
+    pub fn save(&self, out: &mut [u8], at: usize) -> usize
+        requires { at + encoder_room (length self.now.masks.mask) ≤ length out.old }
+        ensures saved { Puts out.old out.new at (encoder_bytes self.now) result }
+        ensures valid { IsEncoderState (length self.now.masks.mask) self.now }
+    {
+        let at = self.masks.save(out, at);
+        self.window.save(out, at)
+    }
+
+    /// Becomes the encoder with these bytes, in the memory that it has.
+    pub fn load(&mut self, bytes: &[u8])
+        requires { AreOfEncoder (length self.old.masks.mask) bytes.now }
+        ensures loaded { (e : EncoderState) → IsEncoderState (length self.old.masks.mask) e
+            → bytes.now ≡ encoder_bytes e → self.new ≡ e }
+        ensures places { length self.new.masks.mask ≡ length self.old.masks.mask }
+    {
+        let rest = self.masks.load(bytes);
+        self.window.load(self.masks.taken(), rest);
+        self.is_kept = false;
     }
 
     /// The effective robustness level of the latest packet. At least one input was taken.

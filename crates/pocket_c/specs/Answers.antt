@@ -1,6 +1,6 @@
 -- What a call of a sender or a receiver answers, by what the handle holds and what is amiss.
 use Rattle.std.specs.Prelude.{ℕ, nat_lt, if◌then◌else◌, List, length, Option, None, Some}
-use Rattle.packet_calls.specs.States.{receiver_state_room}
+use Rattle.packet_calls.specs.States.{receiver_state_room, sender_state_room}
 use Rattle.packet_calls.specs.Refusals.{opening_fault, sending_fault, receiving_fault}
 use Rattle.pocket_c.specs.declared.held.Held.TheVariants as held
 use Rattle.pocket_c.specs.declared.status.CallStatus.{CallStatus}
@@ -42,6 +42,6 @@ receiving_status (Some (held.Bench b)) count bytes room = status.OtherKind
 -- of saving the state into a room of so many bytes
 abbrev pub saving_status : Holding → ℕ → CallStatus
 saving_status None room = status.Closed
-saving_status (Some (held.Sender s)) room = status.OtherKind
+saving_status (Some (held.Sender s)) room = if nat_lt room (sender_state_room (length s.encoder.masks.mask)) then status.NoRoom else status.Done
 saving_status (Some (held.Receiver r)) room = if nat_lt room (receiver_state_room r.reception.decoder.places) then status.NoRoom else status.Done
 saving_status (Some (held.Bench b)) room = status.OtherKind

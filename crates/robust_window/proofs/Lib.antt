@@ -5,3 +5,4 @@ pub mod Ranges
 pub mod Scanning
 pub mod Standing
 pub mod Marking
+pub mod SavedWindows

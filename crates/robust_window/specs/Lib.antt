@@ -1,4 +1,5 @@
 pub mod Changes
 pub mod Histories
 pub mod Window
+pub mod Saved
 pub mod Worked

@@ -14,7 +14,7 @@ use std::alloc::Global;
 use std::marker::Model;
 
 /// How many of the latest changes are kept.
-const KEPT: usize = 16;
+pub(crate) const KEPT: usize = 16;
 
 /// The slot the given number of steps back, at most 15.
 fn slot_back(slots: &HeapCircularBuffer<Bits>, back: u8) -> &Bits
@@ -104,6 +104,23 @@ impl Changes {
             self.slots.push_back(oldest);
             self.marks = marks::pushed(self.marks, false);
         }
+    }
+
+    /// Puts the latest change in place of the oldest one, and tells whether it has no 1.
+    pub(crate) fn push_any(&mut self, change: &Bits) -> bool
+        requires { length change.now ≡ self.old.places }
+        ensures pushed { self.new
+            ≡ record self.old { latest = drop 1 self.old.latest ++ change.now ∷ [] } }
+        ensures zero { OnTrue result (change.now ≡ replicate (length change.now) false) }
+        ensures some { OnFalse result (Contains change.now true) }
+    {
+        let is_zero = change.is_zero();
+        if is_zero {
+            self.push_still();
+        } else {
+            self.push(change);
+        }
+        is_zero
     }
 
     /// The change the given number of steps back, at most 15.

@@ -4,6 +4,7 @@
 mod changes;
 mod laws;
 mod marks;
+mod saved;
 mod window;
 
 pub use laws::{

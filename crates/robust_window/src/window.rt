@@ -1,14 +1,19 @@
 //! The window over the latest changes of a mask.
 
-ghost use Rattle.std.specs.Prelude.{◌≡◌, ◌+◌, ◌-◌, ◌<◌, ◌≤◌, List, [], ◌∷◌, ◌++◌, length, replicate, true, false, Contains, IfOk};
+ghost use Rattle.std.specs.Prelude.{◌≡◌, ◌↔◌, ◌*◌, IsTrue, Bool, ◌+◌, ◌-◌, ◌<◌, ◌≤◌, List, [], ◌∷◌, ◌++◌, length, replicate, true, false, Contains, IfOk};
 ghost use Rattle.std.specs.Bool.{OnFalse, OnTrue};
 ghost use Rattle.robust_window.specs.Changes.{MaskStep, latest_change, level_of, mask_step, recent_of, twice_of};
-ghost use Rattle.robust_window.specs.Window.{Advances, IsNextStep, StandsFor};
+ghost use Rattle.robust_window.specs.Window.{Advances, IsNextStep, StandsFor, WindowState};
+ghost use Rattle.robust_window.specs.Saved.{AreChangesBytes, AreOfWindow, AreSixteen, IsWindowState, window_bytes, window_room};
+ghost use Rattle.state_bytes.specs.Parts.{Puts, vector_part, vector_room};
+ghost use Rattle.std.specs.List.{flat_map};
 ghost use Rattle.bit_vectors.specs.Vectors.{IsPlaces};
 
-use crate::changes::Changes;
+use crate::changes::{Changes, KEPT};
 use crate::marks;
+use crate::saved::{are_changes, take_level};
 use bit_vectors::{Bits, NoMemory};
+use state_bytes::{put, put_vector, take_vector};
 use std::alloc::Global;
 use std::marker::Model;
 
@@ -181,5 +186,76 @@ impl Window {
         ensures places { length result.now ≡ length self.now.recent }
     {
         self.changes.back(back)
+    }
+
+    /// Whether these are the bytes of a window of vectors of `f` places.
+    pub fn is_saved(f: u32, bytes: &[u8]) -> bool
+        requires valid { IsPlaces f }
+        ensures { IsTrue result ↔ AreOfWindow f bytes.now }
+    {
+        let Some((level, _marks, rest)) = take_level(bytes) else {
+            return false;
+        };
+        level <= 15 && are_changes(rest, f)
+    }
+
+    /// Writes its bytes at this place, and tells the place after them.
+    pub fn save(&self, out: &mut [u8], at: usize) -> usize
+        requires { at + window_room (length self.now.recent) ≤ length out.old }
+        ensures saved { Puts out.old out.new at (window_bytes self.now) result }
+        ensures valid { IsWindowState (length self.now.recent) self.now }
+    {
+        let [first, second] = self.new_masks.to_be_bytes();
+        let at = put(out, at, &[self.level, first, second]);
+        let at = self.put_changes(out, at);
+        put_vector(out, at, &self.recent)
+    }
+
+    /// Writes the latest sixteen changes, the oldest first.
+    fn put_changes(&self, out: &mut [u8], at: usize) -> usize
+        requires { at + 16 * vector_room (length self.now.recent) ≤ length out.old }
+        ensures saved { Puts out.old out.new at (flat_map vector_part self.now.changes) result }
+        ensures sixteen { AreSixteen (length self.now.recent) self.now.changes }
+    {
+        let mut end = at;
+        for step in 0..16 {
+            end = put_vector(out, end, self.changes.back(15 - step));
+        }
+        end
+    }
+
+    /// Becomes the window with these bytes, in the memory that it has, at which so many steps were taken.
+    pub fn load(&mut self, taken: u64, bytes: &[u8])
+        requires saved { AreOfWindow (length self.old.recent) bytes.now }
+        requires most { taken ≤ 4294967296 }
+        ensures loaded { (w : WindowState) → IsWindowState (length self.old.recent) w → w.taken ≡ taken
+            → bytes.now ≡ window_bytes w → self.new ≡ w }
+        ensures places { length self.new.recent ≡ length self.old.recent }
+        ensures taken { self.new.taken ≡ taken }
+    {
+        let Some((level, marks, rest)) = take_level(bytes) else {
+            unreachable!();
+        };
+        let rest = self.load_changes(rest);
+        take_vector(rest, &mut self.recent);
+        self.quiet = self.recent.is_zero();
+        self.level = level;
+        self.new_masks = marks;
+        self.taken = taken;
+    }
+
+    /// Takes the latest sixteen changes that the bytes begin with, and tells what follows them. The recent changes may then be any.
+    fn load_changes<'a>(&mut self, bytes: &'a [u8]) -> &'a [u8]
+        requires { AreChangesBytes (length self.old.recent) bytes.now }
+        ensures taken { (given : AreChangesBytes (length self.old.recent) bytes.now)
+            → (self.new.changes ≡ given.changes) × (result.now ≡ vector_part given.recent) }
+        ensures places { length self.new.recent ≡ length self.old.recent }
+    {
+        let mut rest = bytes;
+        for _change in 0..KEPT {
+            rest = take_vector(rest, &mut self.recent);
+            self.quiet = self.changes.push_any(&self.recent);
+        }
+        rest
     }
 }

@@ -14,9 +14,6 @@ use Rattle.state_bytes.proofs.Parts.{Puts-then, bytes_drop}
 abbrev pub magic_bytes : List ℕ
 magic_bytes = 80 ∷ 67 ∷ 75 ∷ 84 ∷ 1 ∷ []
 
-framed_bytes : ℕ → ℕ → List ℕ → List ℕ
-framed_bytes kind f body = head kind f ++ body
-
 -- the parts of a frame
 pub frame_made : (kind f : ℕ) (bytes framed sum magic rest about body : List ℕ) → kind < 256 → f < 2 ^ 32 → bytes ≡ framed ++ sum → framed ≡ magic ++ rest → rest ≡ about ++ body
     → magic ≡ magic_bytes → sum ≡ to_be_bytes w32 (crc32 framed) → about ≡ kind ∷ to_be_bytes w32 f → IsFrame bytes kind f body

@@ -213,10 +213,6 @@ bytes_drop zero bytes are i = are i
 bytes_drop (suc n) [] are i = omega arith
 bytes_drop (suc n) (b ∷ bytes) are i = bytes_drop n bytes (λ k. are (suc k)) i
 
--- where nothing stands before
-pub Puts-first : (old new bytes : List ℕ) (end : ℕ) → Puts old new 0 bytes end → new ≡ bytes ++ drop end old
-Puts-first old new bytes end puts = puts.is
-
 -- ---- sizes
 
 size_if : (b : Bool) (v : List Bool) → has_one v ≡ b → length (vector_part v) ≤ byte_count (length v) + 1

@@ -1,7 +1,8 @@
-//! What no clause says: that receivers open, the bytes of worked states, which were reckoned elsewhere, and that no bit of one can be
+//! What no clause says: that senders and receivers open, the bytes of worked states, which were reckoned elsewhere, and that no bit of one can be
 //! turned and no byte left out.
 
-use packet_calls::{OpenFault, Receiver};
+use bit_vectors::Flags;
+use packet_calls::{OpenFault, Receiver, Sender};
 use std::alloc::Global;
 use std::test::Fail;
 
@@ -84,5 +85,77 @@ fn other_bytes_are_refused(alloc: Global) -> Result<bool, OpenFault> {
 fn states_of_receivers(rt: HostRuntime) -> Result<(), Fail> {
     assert!(rt; worked_states_are_right(rt.alloc())?);
     assert!(rt; other_bytes_are_refused(rt.alloc())?);
+    Ok(())
+}
+
+// A sender of 8 places, with the first mask 0F, from which nothing was sent.
+const UNSENT: [u8; 48] = [
+    0x50, 0x43, 0x4B, 0x54, 0x01, 0x01, 0x00, 0x00, 0x00, 0x08, 0x00, 0x00, 0x00, 0x00, 0x00, 0x00,
+    0x00, 0x00, 0x00, 0x00, 0x00, 0x01, 0x0F, 0x00, 0x00, 0x00, 0x00, 0x00, 0x00, 0x00, 0x00, 0x00,
+    0x00, 0x00, 0x00, 0x00, 0x00, 0x00, 0x00, 0x00, 0x00, 0x00, 0x00, 0x00, 0x27, 0xB6, 0x6C, 0xDB,
+];
+
+// A sender of 8 places that sent B0, B1, B0 with a new mask, and B0, each with a required robustness of 1.
+const SENT: [u8; 50] = [
+    0x50, 0x43, 0x4B, 0x54, 0x01, 0x01, 0x00, 0x00, 0x00, 0x08, 0x00, 0x00, 0x00, 0x00, 0x00, 0x00,
+    0x00, 0x04, 0x01, 0x01, 0xB0, 0x00, 0x01, 0x01, 0x00, 0x01, 0x00, 0x02, 0x00, 0x00, 0x00, 0x00,
+    0x00, 0x00, 0x00, 0x00, 0x00, 0x00, 0x00, 0x00, 0x00, 0x01, 0x01, 0x00, 0x00, 0x00, 0x1A, 0x7E,
+    0x7C, 0x23,
+];
+
+// Whether this is its state.
+fn is_state_of(sender: &Sender, state: &[u8]) -> bool {
+    let mut out = [0; 128];
+    match sender.save(&mut out) {
+        Some(size) => size == state.len() && out.starts_with(state),
+        None => false,
+    }
+}
+
+fn is_sent(sender: &mut Sender, input: u8, new_mask: bool) -> bool {
+    let flags = Flags {
+        p: new_mask,
+        f: false,
+        r: false,
+    };
+    let mut out = [0; 32];
+    sender.send(&[input], flags, 1, &mut out).is_ok()
+}
+
+// Whether the worked states are saved and taken up.
+fn senders_have_their_states(alloc: Global) -> Result<bool, OpenFault> {
+    let mut sender = Sender::open(alloc, 8, None)?;
+    let first = is_sent(&mut sender, 0xB0, false) && is_sent(&mut sender, 0xB1, false);
+    let second = is_sent(&mut sender, 0xB0, true) && is_sent(&mut sender, 0xB0, false);
+    let is_saved = first && second && is_state_of(&sender, &SENT);
+    let mut other = Sender::open(alloc, 8, Some(&[0x0F]))?;
+    let is_fresh = is_state_of(&other, &UNSENT);
+    let is_loaded = other.load(&SENT).is_ok() && is_state_of(&other, &SENT);
+    let is_reset = other.load(&UNSENT).is_ok() && is_state_of(&other, &UNSENT);
+    Ok(is_saved && is_fresh && is_loaded && is_reset)
+}
+
+// Whether no byte of the state can be left out, and no bit turned, and nothing has changed then; and it is no receiver's.
+fn senders_refuse_other_bytes(alloc: Global) -> Result<bool, OpenFault> {
+    let mut sender = Sender::open(alloc, 8, Some(&[0x0F]))?;
+    for size in 0..50 {
+        if sender.load(&SENT[..size]).is_ok() {
+            return Ok(false);
+        }
+    }
+    for place in 0..400 {
+        let mut turned = SENT;
+        turned[place / 8] ^= 1 << (place % 8);
+        if sender.load(&turned).is_ok() {
+            return Ok(false);
+        }
+    }
+    Ok(sender.load(&JUDGED).is_err() && is_state_of(&sender, &UNSENT))
+}
+
+#[test]
+fn states_of_senders(rt: HostRuntime) -> Result<(), Fail> {
+    assert!(rt; senders_have_their_states(rt.alloc())?);
+    assert!(rt; senders_refuse_other_bytes(rt.alloc())?);
     Ok(())
 }
