@@ -1,5 +1,5 @@
 -- How moves from an inlet and additions to an outlet are joined, for every loop over a desk.
-use Rattle.std.proofs.Common.{◌≡◌, ℕ, ◌+◌, ◌≤◌, List, [], ◌++◌, length, take, drop, take-append-drop, Option, Some, None, refl, sym, ap, ◌∙◌, subst, append_assoc, append-nil}
+use Rattle.std.proofs.Common.{◌≡◌, ℕ, ◌+◌, ◌≤◌, List, [], ◌++◌, length, take, Option, Some, None, refl, sym, ap, ◌∙◌, subst, append_assoc, append-nil}
 use Rattle.std.proofs.lemmas.List.{take-append-le, length-take-le}
 use Rattle.std.proofs.Math.Seq.{take-append-add}
 use borrow.Rule.Slice.PartMut.{put_mid, post_of}
@@ -8,7 +8,7 @@ use Rattle.desk_ports.specs.declared.desk.Inlet.{Inlet}
 use Rattle.desk_ports.specs.declared.desk.Inlet.TheVariants as inlet
 use Rattle.desk_ports.specs.declared.desk.Outlet.{Outlet}
 use Rattle.desk_ports.specs.declared.desk.Outlet.TheVariants as outlet
-use Rattle.desk_ports.specs.Meanings.{Meanings, Moves, Adds, AddsFront, IsReadyIn, IsReadyOut, left, with_left, made, with_made}
+use Rattle.desk_ports.specs.Meanings.{Meanings, Moves, Adds, IsReadyIn, IsReadyOut, left, with_left, made, with_made}
 
 with_left-with_left : (m : Meanings) (i : Inlet) (a b : Option (List ℕ)) → with_left (with_left m i a) i b ≡ with_left m i b
 with_left-with_left m inlet.Side a b = refl
@@ -61,6 +61,14 @@ Moves-then a b c i xs ys p q = record {
 pub Moves-ready : (a b : Meanings) (i : Inlet) (xs : List ℕ) → Moves a b i xs → IsReadyIn a i → IsReadyIn b i
 Moves-ready a b i xs p h = subst (λ m. IsReadyIn m i) (sym p.others) (IsReadyIn-with_left a i (left b i) h)
 
+with_made-made : (m : Meanings) (o : Outlet) → m ≡ with_made m o (made m o)
+with_made-made m outlet.Main = refl
+with_made-made m outlet.Report = refl
+
+-- nothing was added
+pub Adds-none : (m : Meanings) (o : Outlet) → Adds m m o []
+Adds-none m o = record { added = append_known-none (made m o); others = with_made-made m o }
+
 -- bytes and then more bytes were added
 pub Adds-then : (a b c : Meanings) (o : Outlet) (xs ys : List ℕ) → Adds a b o xs → Adds b c o ys → Adds a c o (xs ++ ys)
 Adds-then a b c o xs ys p q = record {
@@ -71,10 +79,6 @@ Adds-then a b c o xs ys p q = record {
 -- an opened outlet stays open
 pub Adds-ready : (a b : Meanings) (o : Outlet) (xs : List ℕ) → Adds a b o xs → IsReadyOut a o → IsReadyOut b o
 Adds-ready a b o xs p h = subst (λ m. IsReadyOut m o) (sym p.others) (IsReadyOut-with_made a o (made b o) h)
-
--- a prefix was added, as long as a limit allows
-pub AddsFront-take : (a b : Meanings) (o : Outlet) (n : ℕ) (xs : List ℕ) → Adds a b o (take n xs) → AddsFront a b o xs
-AddsFront-take a b o n xs p = record { front = take n xs; rest = drop n xs; joined = take-append-drop n xs; added = p }
 
 -- after more bytes were read after a full front, the front is longer by them
 pub take-put_mid-add : (xs ys : List ℕ) (a k n : ℕ) → a ≤ length xs → n ≤ length ys → take (a + n) (put_mid a k xs ys) ≡ take a xs ++ take n ys

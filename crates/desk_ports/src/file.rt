@@ -10,11 +10,14 @@ ghost use Rattle.desk_ports.specs.FileDesk.{awaits_outlet, expects_report, file_
 mod outlets;
 
 use crate::desk::{Desk, Failed, Inlet, Outlet};
+use crate::part::refused;
 use crate::progress::Progress;
 use crate::read_faults::ReadFaults;
 use crate::sink::Sink;
 use crate::source::Source;
 use crate::write_faults::WriteFaults;
+use outlets::UNOPENED;
+use std::io;
 
 /// The desk over real files. The name `-` is standard input for an inlet and standard output for an outlet.
 ///
@@ -78,6 +81,17 @@ impl<'a> FileDesk<'a> {
         }
     }
 
+    /// The error of the system at the last reading that failed, and its inlet.
+    pub fn read_fault(&self) -> Option<&(Inlet, io::Error)> {
+        self.read_faults.last()
+    }
+
+    /// The error of the system at the last writing that failed, and its outlet: what was opened, written, finished or named
+    /// there.
+    pub fn write_fault(&self) -> Option<&(Outlet, io::Error)> {
+        self.write_faults.last()
+    }
+
     /// Hands everything to the system that was gathered for both outlets. A run that was refused leaves its outputs
     /// unfinished; after this call they have what it wrote, and their parts wait for their names as before.
     pub fn hand_over(&mut self) -> Result<(), Failed>
@@ -117,7 +131,8 @@ impl<'a> FileDesk<'a> {
     {
         let output = self.output.flush();
         let report = self.report.flush();
-        self.write_faults.put_off(output.and(report));
+        self.write_faults.put_off(Outlet::Report, report);
+        self.write_faults.put_off(Outlet::Main, output);
     }
 
     // Whether a read at the inlet may wait.
@@ -163,8 +178,8 @@ impl<'a> FileDesk<'a> {
         ensures report { self.new.has_report ≡ self.old.has_report }
     {
         match inlet {
-            Inlet::Side => self.side.read(buf, &mut self.read_faults),
-            Inlet::Main => self.input.read(buf, &mut self.read_faults),
+            Inlet::Side => self.side.read(inlet, buf, &mut self.read_faults),
+            Inlet::Main => self.input.read(inlet, buf, &mut self.read_faults),
         }
     }
 }
@@ -192,7 +207,7 @@ impl<'a> Desk for FileDesk<'a> {
         ensures report { expects_report self.new ≡ expects_report self.old }
     {
         let source = Source::open(self.rt, name);
-        let source = self.read_faults.answer(source)?;
+        let source = self.read_faults.answer(inlet, source)?;
         match inlet {
             Inlet::Side => self.side = source,
             Inlet::Main => {
@@ -233,11 +248,12 @@ impl<'a> Desk for FileDesk<'a> {
         ensures begun { OnOk result (IsFalse (awaits_outlet self.new)
             → (outlet : Outlet) → IsFalse (holds_back_at self.new outlet)) }
     {
-        let Ok(mut sink) = self.open_sink(outlet, name) else {
-            return Err(self.write_faults.fault());
+        let mut sink = match self.open_sink(outlet, name) {
+            Ok(sink) => sink,
+            Err(error) => return Err(self.write_faults.fault((outlet, error))),
         };
-        if self.begin(outlet, &mut sink).is_err() {
-            return Err(self.write_faults.fault());
+        if let Err(fault) = self.begin(outlet, &mut sink) {
+            return Err(self.write_faults.fault(fault));
         }
         if sink.is_terminal(self.rt) {
             self.progress.hide();
@@ -312,16 +328,13 @@ impl<'a> Desk for FileDesk<'a> {
     {
         self.write_faults.due()?;
         if self.awaits_outlet() {
-            return Err(self.write_faults.fault());
+            return Err(self.write_faults.fault((outlet, refused(UNOPENED))));
         }
-        let taken = match outlet {
-            Outlet::Main => self.output.write(bytes),
-            Outlet::Report => self.report.write(bytes),
-        };
-        match taken {
-            None | Some(0) => Err(self.write_faults.fault()),
-            Some(taken) => Ok(taken),
+        match outlet {
+            Outlet::Main => self.output.write(outlet, bytes, &mut self.write_faults)?,
+            Outlet::Report => self.report.write(outlet, bytes, &mut self.write_faults)?,
         }
+        Ok(bytes.len())
     }
 
     fn finish(&mut self, outlet: Outlet) -> Result<(), Failed>
@@ -365,7 +378,7 @@ impl<'a> Desk for FileDesk<'a> {
         self.write_faults.due()?;
         match self.end(outlet) {
             Ok(()) => Ok(()),
-            Err(_) => Err(self.write_faults.fault()),
+            Err(fault) => Err(self.write_faults.fault(fault)),
         }
     }
 }

@@ -31,6 +31,5 @@ pub use laws::{
 pub use memory::MemDesk;
 pub use quiet::QuietDesk;
 pub use row::{ROW_BYTES, Row};
-pub use sink::is_standard_output;
 pub use transfer::{fill, write_all};
 pub use turns::{Run, Turn, drive};

@@ -85,8 +85,11 @@ impl Part {
                     return Ok((standing, None));
                 }
                 let node = Some(Node::of(&metadata));
-                if taken == node || read.contains(&node) {
-                    return Err(refused());
+                if read.contains(&node) {
+                    return Err(refused("the command reads this file"));
+                }
+                if taken == node {
+                    return Err(refused("the other output is this file or its part"));
                 }
                 Some(metadata.permissions())
             }
@@ -111,7 +114,7 @@ impl Part {
         };
         if is_target(rt, node, other) {
             part.withdraw(rt);
-            return Err(refused());
+            return Err(refused("its part would be the other output"));
         }
         Ok((file, Some(part)))
     }
@@ -151,11 +154,10 @@ impl Part {
 
     /// Fails if another file has come in the part's place, as that of another run over the same name.
     pub fn stands(&self, rt: &HostRuntime) -> io::Result<()> {
-        let standing = fs::symlink_metadata(rt, &self.own)?;
-        if Node::of(&standing) != self.node {
-            return Err(refused());
+        match fs::symlink_metadata(rt, &self.own) {
+            Ok(standing) if Node::of(&standing) == self.node => Ok(()),
+            _ => Err(refused("its part is gone, or another run has taken its place")),
         }
-        Ok(())
     }
 
     /// The same, and notes that the part stands.
@@ -183,7 +185,9 @@ fn target_of(rt: &HostRuntime, name: &str) -> io::Result<String> {
     if !is_link {
         return Ok(format!(in rt.alloc(); "{name}")?);
     }
-    let path = fs::canonicalize(rt, name)?;
+    let Ok(path) = fs::canonicalize(rt, name) else {
+        return Err(refused("it is a link to a name that nothing has"));
+    };
     Ok(format!(in rt.alloc(); "{}", path.display())?)
 }
 
@@ -216,8 +220,11 @@ fn earlier_at(
             let node = Node::of(&standing);
             let is_used = read.contains(&Some(node)) || Node::standard_output(rt) == Some(node);
             let is_other = taken == Some(node) || is_target(rt, node, other);
-            if !standing.is_file() || is_used || is_other {
-                return Err(refused());
+            if !standing.is_file() {
+                return Err(refused("what stands in the place of its part is no file"));
+            }
+            if is_used || is_other {
+                return Err(refused("its part would replace another file of the run"));
             }
             Ok(Some(node))
         }
@@ -232,10 +239,7 @@ fn is_target(rt: &HostRuntime, node: Node, other: Option<&Part>) -> bool {
     }
 }
 
-/// Why a part is not made, or doesn't take its name.
-pub fn refused() -> io::Error {
-    io::Error::new(
-        io::ErrorKind::AlreadyExists,
-        "an output would replace another file of the run",
-    )
+/// An error that isn't the system's: why a part is not made, or doesn't take its name.
+pub fn refused(why: &'static str) -> io::Error {
+    io::Error::new(io::ErrorKind::AlreadyExists, why)
 }

@@ -1,9 +1,12 @@
 //! Where the bytes of an outlet of real files go.
 
-ghost use Rattle.std.specs.Prelude.{◌≡◌, ◌≤◌, false, true, not, [], length, IsFalse, IsTrue, IsErr, IfOk, IfSome, OnOk, OnErr};
+ghost use Rattle.std.specs.Prelude.{◌≡◌, false, true, not, [], IsFalse, IsTrue, IsErr, IfOk, OnOk, OnErr};
+ghost use Rattle.desk_ports.specs.Meanings.{next_count};
 ghost use Rattle.desk_ports.specs.FileDesk.{gathered, holds_back, is_opened_sink, is_standard_output, is_unfinished, names_standard_output, stands, waits, KeepsSink, IsSteady};
 
+use crate::desk::{Failed, Outlet};
 use crate::part::{Node, Part, refused};
+use crate::write_faults::WriteFaults;
 use std::fs::File;
 use std::io;
 use std::io::{BufWriter, IsTerminal, Stdout, Write};
@@ -11,8 +14,8 @@ use std::io::{BufWriter, IsTerminal, Stdout, Write};
 /// How many bytes of an outlet are gathered before they are handed to the system.
 const GATHERED: usize = 131_072;
 
-/// Whether it is one of the names of standard output.
-pub fn is_standard_output(name: &str) -> bool
+// Whether it is one of the names of standard output.
+fn is_standard_output(name: &str) -> bool
     ensures { result ≡ names_standard_output name.now }
 {
     matches!(name, "-" | "/dev/stdout" | "/dev/fd/1" | "/proc/self/fd/1")
@@ -47,8 +50,11 @@ impl Sink {
             → IsTrue (is_standard_output other.now) → IsErr result }
     {
         if is_standard_output(name) {
-            if other.is_standard_output() || other.replaces(rt, Node::standard_output(rt)) {
-                return Err(refused());
+            if other.is_standard_output() {
+                return Err(refused("both outputs are standard output"));
+            }
+            if other.replaces(rt, Node::standard_output(rt)) {
+                return Err(refused("the other output would replace this file"));
             }
             let stdout = BufWriter::with_capacity(rt.alloc(), GATHERED, rt.stdout())?;
             return Ok(Sink::StandardOutput(stdout, true));
@@ -134,25 +140,32 @@ impl Sink {
         }
     }
 
-    /// Tells how many bytes were taken. The system's reason for a refusal is dropped: an `io::Error` is far larger than a
-    /// number.
-    pub fn write(&mut self, bytes: &[u8]) -> Option<usize>
+    /// Takes all the bytes for an outlet, and counts a failed writing, after which some of them may have been taken. The error is
+    /// kept where it comes: an `io::Error` is far larger than an answer.
+    pub fn write(
+        &mut self,
+        outlet: Outlet,
+        bytes: &[u8],
+        faults: &mut WriteFaults,
+    ) -> Result<(), Failed>
         requires { IsTrue (is_opened_sink self.old) }
-        ensures within { IfSome result (λ n. n ≤ length bytes.now) }
         ensures opened { IsTrue (is_opened_sink self.new) }
         ensures standard { is_standard_output self.new ≡ is_standard_output self.old }
         ensures waits { waits self.new ≡ waits self.old }
         ensures unfinished { IsTrue (is_unfinished self.new) }
+        ensures same { OnOk result (faults.new ≡ faults.old) }
+        ensures counted { OnErr result (faults.new.count ≡ next_count faults.old.count) }
+        ensures pending { faults.new.pending ≡ faults.old.pending }
     {
         match self {
             Sink::Nothing => unreachable!(),
             Sink::StandardOutput(stdout, unfinished) => {
                 *unfinished = true;
-                stdout.write(bytes).ok()
+                faults.answer(outlet, stdout.write_all(bytes))
             }
             Sink::File(file, _, unfinished) => {
                 *unfinished = true;
-                file.write(bytes).ok()
+                faults.answer(outlet, file.write_all(bytes))
             }
         }
     }

@@ -6,7 +6,7 @@ ghost use Rattle.std.specs.Io.KnownBytes.{ReadConsumes};
 ghost use Rattle.desk_ports.specs.Meanings.{next_count};
 ghost use Rattle.desk_ports.specs.FileDesk.{is_live, is_opened_source, is_standard_input, names_standard_input};
 
-use crate::desk::Failed;
+use crate::desk::{Failed, Inlet};
 use crate::part::Node;
 use crate::read_faults::ReadFaults;
 use std::fs::{File, Metadata};
@@ -70,8 +70,13 @@ impl Source {
         }
     }
 
-    /// Reads once, and counts a failed reading.
-    pub fn read(&mut self, buf: &mut [u8], faults: &mut ReadFaults) -> Result<usize, Failed>
+    /// Reads once for an inlet, and counts a failed reading.
+    pub fn read(
+        &mut self,
+        inlet: Inlet,
+        buf: &mut [u8],
+        faults: &mut ReadFaults,
+    ) -> Result<usize, Failed>
         requires { IsTrue (is_opened_source self.old) }
         ensures within { IfOk result (λ n. n ≤ length buf.old) }
         ensures opened { IsTrue (is_opened_source self.new) }
@@ -82,8 +87,8 @@ impl Source {
     {
         match self {
             Source::Nothing => unreachable!(),
-            Source::StandardInput(stdin, _) => read_counted(stdin, buf, faults),
-            Source::File(file, _) => read_counted(file, buf, faults),
+            Source::StandardInput(stdin, _) => read_counted(stdin, inlet, buf, faults),
+            Source::File(file, _) => read_counted(file, inlet, buf, faults),
         }
     }
 }
@@ -91,6 +96,7 @@ impl Source {
 // Reads once, from whatever reader, and counts a failed reading. So none is told as the end of the input.
 fn read_counted<R: Read>(
     reader: &mut R,
+    inlet: Inlet,
     buf: &mut [u8],
     faults: &mut ReadFaults,
 ) -> Result<usize, Failed>
@@ -99,7 +105,7 @@ fn read_counted<R: Read>(
     ensures same { OnOk result (faults.new ≡ faults.old) }
     ensures counted { OnErr result (faults.new.count ≡ next_count faults.old.count) }
 {
-    faults.answer(reader.read(buf))
+    faults.answer(inlet, reader.read(buf))
 }
 
 // Whether a read of what has this metadata may wait: it is no regular file, or the system doesn't tell what it is.

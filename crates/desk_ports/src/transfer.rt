@@ -38,9 +38,10 @@ pub fn write_all<D: Desk>(desk: &mut D, outlet: Outlet, bytes: &[u8]) -> Result<
     requires { IsReadyOut (D.meaning desk.old) outlet }
     ensures { Writes D.meaning D.counts desk.old desk.new (to_outlet outlet bytes.now) result }
 {
-    let mut sent = 0;
-    while sent < bytes.len() {
-        sent += desk.write(outlet, &bytes[sent..])?;
+    let mut rest = bytes;
+    while !rest.is_empty() {
+        let taken = desk.write(outlet, rest)?;
+        rest = &rest[taken..];
     }
     Ok(())
 }

@@ -1,45 +1,84 @@
-//! How often the system failed to write, and whether that is still to be told.
+//! How often the system failed to write, why it did so last, and whether that is still to be told.
 
-ghost use Rattle.std.specs.Prelude.{◌≡◌, ◌+◌, ◌-◌, ◌^◌, min, true, false, IsTrue, IsFalse, IsErr, OnOk, OnErr};
+ghost use Rattle.std.specs.Prelude.{◌≡◌, ◌+◌, ◌-◌, ◌^◌, min, Ok, IsTrue, IsFalse, IsErr, OnOk, OnErr};
 
-use crate::desk::Failed;
+use crate::desk::{Failed, Outlet};
 use std::io;
 
-/// A count of failed writings, which ends at 18,446,744,073,709,551,615, and whether one is pending: what is handed over
-/// while something else is done can fail too, and the next call that writes answers for it.
+/// A count of failed writings, which ends at 18,446,744,073,709,551,615, the last error, with its outlet, and whether one is
+/// pending: what is handed over while something else is done can fail too, and the next call that writes answers for it.
 #[derive(Drop)]
 pub struct WriteFaults {
     count: u64,
     pending: bool,
+    last: Option<(Outlet, io::Error)>,
+}
+
+/// The answer of a call at an outlet, which an error has with it.
+pub fn at(outlet: Outlet, given: io::Result<()>) -> Result<(), (Outlet, io::Error)>
+    ensures given { OnOk given (result ≡ Ok tt) }
+    ensures failed { OnErr given (IsErr result) }
+{
+    match given {
+        Ok(()) => Ok(()),
+        Err(error) => Err((outlet, error)),
+    }
 }
 
 impl WriteFaults {
     /// No writing failed.
     pub fn none() -> WriteFaults
-        ensures { result ≡ record { count = 0; pending = false } }
+        ensures count { result.count ≡ 0 }
+        ensures pending { IsFalse result.pending }
     {
         WriteFaults {
             count: 0,
             pending: false,
+            last: None,
+        }
+    }
+
+    /// The error of the last writing that failed, and its outlet.
+    pub fn last(&self) -> Option<&(Outlet, io::Error)> {
+        self.last.as_ref()
+    }
+
+    /// The answer of a call that writes at an outlet: a fault exactly if the system gave an error.
+    #[inline(always)]
+    pub fn answer(&mut self, outlet: Outlet, given: io::Result<()>) -> Result<(), Failed>
+        ensures given { OnOk given (result ≡ Ok tt) }
+        ensures same { OnOk given (self.new ≡ self.old) }
+        ensures failed { OnErr given (IsErr result) }
+        ensures counted { OnErr given
+            (self.new.count ≡ min (self.old.count + 1) (2 ^ 64 - 1)) }
+        ensures pending { self.new.pending ≡ self.old.pending }
+    {
+        match given {
+            Ok(()) => Ok(()),
+            Err(error) => Err(self.fault((outlet, error))),
         }
     }
 
     /// Counts a failed writing.
-    pub fn fault(&mut self) -> Failed
-        ensures { self.new
-            ≡ record self.old { count = min (self.old.count + 1) (2 ^ 64 - 1) } }
+    #[cold]
+    pub fn fault(&mut self, fault: (Outlet, io::Error)) -> Failed
+        ensures count { self.new.count ≡ min (self.old.count + 1) (2 ^ 64 - 1) }
+        ensures pending { self.new.pending ≡ self.old.pending }
     {
         self.count = self.count.saturating_add(1);
+        self.last = Some(fault);
         Failed
     }
 
     /// Leaves an error of the system to the next call that writes.
-    pub fn put_off(&mut self, handed: io::Result<()>)
+    pub fn put_off(&mut self, outlet: Outlet, handed: io::Result<()>)
+        ensures count { self.new.count ≡ self.old.count }
         ensures same { OnOk handed (self.new ≡ self.old) }
-        ensures pending { OnErr handed (self.new ≡ record self.old { pending = true }) }
+        ensures pending { OnErr handed (IsTrue self.new.pending) }
     {
-        if handed.is_err() {
+        if let Err(error) = handed {
             self.pending = true;
+            self.last = Some((outlet, error));
         }
     }
 
@@ -49,15 +88,14 @@ impl WriteFaults {
         ensures none { OnOk result (IsFalse self.old.pending) }
         ensures same { OnOk result (self.new ≡ self.old) }
         ensures counted { OnErr result
-            (self.new ≡ record {
-              count = min (self.old.count + 1) (2 ^ 64 - 1);
-              pending = false;
-            }) }
+            (self.new.count ≡ min (self.old.count + 1) (2 ^ 64 - 1)) }
+        ensures settled { IsFalse self.new.pending }
     {
         if !self.pending {
             return Ok(());
         }
         self.pending = false;
-        Err(self.fault())
+        self.count = self.count.saturating_add(1);
+        Err(Failed)
     }
 }

@@ -1,6 +1,7 @@
 //! Which records are rows.
 
-ghost use Rattle.std.specs.Prelude.{◌≡◌, count_by, IfSome};
+ghost use Rattle.std.specs.Prelude.{◌≡◌, count_by, IfOk};
+ghost use Rattle.std.specs.Result.{result_ok};
 ghost use Rattle.std.specs.List.{list_any};
 ghost use Rattle.csv.specs.Records.{fields_of};
 ghost use Rattle.param_table.specs.Rows.{IsFieldRow, IsLimitRow, IsTextRow, is_field, names_field, names_limit};
@@ -9,7 +10,22 @@ ghost use Rattle.param_table.specs.Grammar.{field_row_of, is_signed_kind, limit_
 use crate::name::Name;
 use crate::rows::{FieldRow, Limit, LimitRow, TextRow};
 use csv::ByteRecord;
-use side_tables::{RowGrammar, number, signed_number};
+use side_tables::{RowFault, RowGrammar, number, signed_number};
+
+const ROW: &str = "a row of fields is field,place,width,kind,name or limit,name,low,high";
+
+const PLACE: &str = "the place is no number below bits in plain digits";
+
+const WIDTH: &str =
+    "the width is no number from 1 to 64 in plain digits, or the field reaches past the last bit";
+
+const NAME: &str = "the name is not 1 to 32 letters, digits or _, the first a letter";
+
+const UNNAMED: &str = "no earlier row has a field of this name, or it has a limit already";
+
+const LOW: &str = "the low limit is no number from -9223372036854775808 to 18446744073709551615";
+
+const HIGH: &str = "the high limit is no number from -9223372036854775808 to 18446744073709551615";
 
 /// The most rows that name a field.
 const MOST_FIELDS: usize = 256;
@@ -27,31 +43,46 @@ impl RowGrammar for FieldText {
 
     ghost is_right = { λ text. IsTextRow text.places };
 
-    fn row(&self, before: &[TextRow], fields: &ByteRecord) -> Option<TextRow> {
-        match fields.get(0)? {
-            b"field" => Some(TextRow::Field(field_row(before, fields, self.places)?)),
-            b"limit" => Some(TextRow::Limit(limit_row(before, fields)?)),
-            _ => None,
+    fn row(&self, before: &[TextRow], fields: &ByteRecord) -> Result<TextRow, RowFault> {
+        match fields.get(0).ok_or(RowFault(ROW))? {
+            b"field" => Ok(TextRow::Field(field_row(before, fields, self.places)?)),
+            b"limit" => Ok(TextRow::Limit(limit_row(before, fields)?)),
+            _ => Err(RowFault(ROW)),
         }
     }
 }
 
 /// The field that a record names after these rows.
-fn field_row(before: &[TextRow], fields: &ByteRecord, places: u32) -> Option<FieldRow>
-    ensures row { result ≡ field_row_of places before.now (fields_of fields.now) }
-    ensures right { IfSome result (IsFieldRow places) }
+fn field_row(before: &[TextRow], fields: &ByteRecord, places: u32) -> Result<FieldRow, RowFault>
+    ensures row { result_ok result ≡ field_row_of places before.now (fields_of fields.now) }
+    ensures right { IfOk result (IsFieldRow places) }
 {
-    if fields.len() != 5 || field_count(before) >= MOST_FIELDS {
-        return None;
+    if fields.len() != 5 {
+        return Err(RowFault(ROW));
     }
-    let place = number(fields.get(1)?, 0, places.saturating_sub(1))?;
-    let width = number(fields.get(2)?, 1, 64.min(places.saturating_sub(place)))?;
-    let signed = is_signed_kind(fields.get(3)?)?;
-    let name = Name::of(fields.get(4)?)?;
+    if field_count(before) >= MOST_FIELDS {
+        return Err(RowFault("there are 256 fields before it"));
+    }
+    let place = number(
+        fields.get(1).ok_or(RowFault(ROW))?,
+        0,
+        places.saturating_sub(1),
+    )
+    .ok_or(RowFault(PLACE))?;
+    let width = number(
+        fields.get(2).ok_or(RowFault(ROW))?,
+        1,
+        64.min(places.saturating_sub(place)),
+    );
+    let width = width.ok_or(RowFault(WIDTH))?;
+    let signed = is_signed_kind(fields.get(3).ok_or(RowFault(ROW))?).ok_or(RowFault(
+        "the kind is neither u nor s",
+    ))?;
+    let name = Name::of(fields.get(4).ok_or(RowFault(ROW))?).ok_or(RowFault(NAME))?;
     if has_field(before, &name) {
-        return None;
+        return Err(RowFault("an earlier row has this name"));
     }
-    Some(FieldRow {
+    Ok(FieldRow {
         place,
         width,
         signed,
@@ -60,20 +91,23 @@ fn field_row(before: &[TextRow], fields: &ByteRecord, places: u32) -> Option<Fie
 }
 
 /// The limit that a record gives to a field of the rows before it.
-fn limit_row(before: &[TextRow], fields: &ByteRecord) -> Option<LimitRow>
-    ensures row { result ≡ limit_row_of before.now (fields_of fields.now) }
-    ensures right { IfSome result IsLimitRow }
+fn limit_row(before: &[TextRow], fields: &ByteRecord) -> Result<LimitRow, RowFault>
+    ensures row { result_ok result ≡ limit_row_of before.now (fields_of fields.now) }
+    ensures right { IfOk result IsLimitRow }
 {
     if fields.len() != 4 {
-        return None;
+        return Err(RowFault(ROW));
     }
-    let name = Name::of(fields.get(1)?)?;
-    let low = signed_number(fields.get(2)?)?;
-    let high = signed_number(fields.get(3)?)?;
-    if !has_field(before, &name) || has_limit(before, &name) || high < low {
-        return None;
+    let name = Name::of(fields.get(1).ok_or(RowFault(ROW))?).ok_or(RowFault(UNNAMED))?;
+    let low = signed_number(fields.get(2).ok_or(RowFault(ROW))?).ok_or(RowFault(LOW))?;
+    let high = signed_number(fields.get(3).ok_or(RowFault(ROW))?).ok_or(RowFault(HIGH))?;
+    if !has_field(before, &name) || has_limit(before, &name) {
+        return Err(RowFault(UNNAMED));
     }
-    Some(LimitRow {
+    if high < low {
+        return Err(RowFault("the high limit is below the low one"));
+    }
+    Ok(LimitRow {
         name,
         limit: Limit { low, high },
     })

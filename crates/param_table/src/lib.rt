@@ -16,6 +16,7 @@ mod writing;
 pub use cells::cell;
 pub use fields::Fields;
 pub use flight_chain::FlightFault as TableFault;
+pub use grammar::FieldText;
 pub use laws::{
     fronts_owe_fronts, numbers_are_sums, whole_recordings_owe_their_texts, worked_tables,
 };

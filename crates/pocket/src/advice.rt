@@ -1,14 +1,14 @@
 //! What a second line on standard error says of a refusal, if that is a terminal or the environment asks for it. Nothing
 //! that is decided looks at it.
 
-use crate::causes::{reading_cause, told_writing};
 use crate::keys::{Takes, row_of, value_of};
-use crate::row_faults::{RowKind, fault_of};
-use desk_ports::is_standard_output;
+use desk_ports::{FileDesk, Inlet, Outlet};
+use param_table::FieldText;
 use pocket_cmd::{MOST_TEXT_BYTES, Refusal, VERB_WORDS, ValueKind, Verb};
+use side_tables::{RowFault, ScheduleText, ScriptText, StreamText, wrong_row};
 use std::fmt::{Display, Formatter};
 use std::io::IsTerminal;
-use std::{env, fmt, fs};
+use std::{env, fmt, fs, io};
 use strsim::levenshtein;
 
 /// How many characters of a word, a name or a row are shown.
@@ -35,17 +35,32 @@ fn is_asked_for(rt: &HostRuntime) -> bool {
     rt.stderr().is_terminal() || env::var(rt, EXPLAIN).is_ok_and(|value| value.as_str() == "1")
 }
 
-/// Says more of a refusal, if that is asked for.
-pub fn advise(rt: &HostRuntime, words: &[String], refusal: &Refusal) {
+/// Says more of a refusal by a run at a desk, if that is asked for.
+pub fn advise<'a>(rt: &HostRuntime, words: &[String], desk: &FileDesk<'a>, refusal: &Refusal) {
     if !is_asked_for(rt) {
         return;
     }
     match refusal {
         Refusal::BadWords { word } => tell_word(rt, words, *word as usize),
-        Refusal::BadSide { row } => tell_side(rt, words, *row),
-        Refusal::BadScript { row } => tell_row(rt, words, "script", RowKind::Script, *row),
-        Refusal::ReadFault => tell_reading(rt, words),
-        Refusal::WriteFault => tell_writing(rt, words),
+        Refusal::BadSide { .. } => tell_side(rt, words),
+        Refusal::BadScript { .. } => {
+            tell_row(
+                rt,
+                words,
+                "script",
+                value_of(words, "script").unwrap_or("-"),
+            );
+        }
+        Refusal::ReadFault => {
+            if let Some(fault) = desk.read_fault() {
+                tell_reading(rt, words, fault);
+            }
+        }
+        Refusal::WriteFault => {
+            if let Some(fault) = desk.write_fault() {
+                tell_writing(rt, words, fault);
+            }
+        }
         Refusal::CutRecord { .. } | Refusal::SpareBit { .. } => tell_parts(rt, words),
         Refusal::BadStore { .. } | Refusal::TooMany => tell_parts(rt, words),
         Refusal::SideTooLong | Refusal::ScriptTooLong | Refusal::NoMemory => {}
@@ -151,38 +166,52 @@ fn tell_keys(rt: &HostRuntime, name: &str, verb: Verb) {
 }
 
 /// Tells what is wrong with a row of the side input, which is the first of these that the words have.
-fn tell_side(rt: &HostRuntime, words: &[String], row: u32) {
-    let bits = value_of(words, "bits").and_then(|text| text.parse::<u32>().ok());
-    let kinds = [
-        ("plan", RowKind::Schedule),
-        ("script", RowKind::Script),
-        ("fields", RowKind::Fields(bits.unwrap_or(0))),
-        ("streams", RowKind::Streams),
-    ];
-    for (key, kind) in kinds {
-        if value_of(words, key).is_some() {
-            return tell_row(rt, words, key, kind, row);
+fn tell_side(rt: &HostRuntime, words: &[String]) {
+    for key in ["plan", "script", "fields", "streams"] {
+        if let Some(name) = value_of(words, key) {
+            return tell_row(rt, words, key, name);
         }
     }
 }
 
-/// Tells the text of a row and what is wrong with it, if it was read from a file, and no quote stands in that.
-fn tell_row(rt: &HostRuntime, words: &[String], key: &str, kind: RowKind, row: u32) {
-    let Some(name) = value_of(words, key) else {
-        return;
-    };
+/// Tells the text of the first wrong row and which part of it is wrong, if it was read from a file.
+fn tell_row(rt: &HostRuntime, words: &[String], key: &str, name: &str) {
     let is_short = fs::metadata(rt, name).is_ok_and(|it| it.is_file()
         && it.len() <= MOST_TEXT_BYTES as u64);
     if name == "-" || !is_short {
         return;
     }
-    if let Ok(text) = fs::read_to_string(rt, name) {
-        if let Some(line) = row_of_text(text.as_str(), row) {
-            let shown = Shown(line);
-            let why = fault_of(kind, line);
-            let _ = eprintln!(rt; "pocket: {shown}: {why}");
-        }
+    let Ok(text) = fs::read_to_string(rt, name) else {
+        return;
+    };
+    if let Some((row, why)) = wrong_row_of(rt, words, key, text.as_str()) {
+        let shown = Shown(row);
+        let _ = eprintln!(rt; "pocket: {shown}: {why}");
     }
+}
+
+/// The first wrong row of the text of a key, and which part of it is wrong.
+fn wrong_row_of<'a>(
+    rt: &HostRuntime,
+    words: &[String],
+    key: &str,
+    text: &'a str,
+) -> Option<(&'a str, RowFault)> {
+    let (alloc, bytes) = (rt.alloc(), text.as_bytes());
+    let bits = value_of(words, "bits").and_then(|bits| bits.parse::<u32>().ok());
+    let (record, fault) = match key {
+        "plan" => wrong_row(alloc, &ScheduleText, bytes),
+        "script" => wrong_row(alloc, &ScriptText, bytes),
+        "streams" => wrong_row(alloc, &StreamText, bytes),
+        _ => wrong_row(alloc, &FieldText { places: bits? }, bytes),
+    }?;
+    let at = record.position()?.byte();
+    let row = text
+        .get(at as usize..)?
+        .trim_start_matches(['\n', '\r'])
+        .split(['\n', '\r'])
+        .next()?;
+    Some((row, fault))
 }
 
 /// Says of a command that was done, if standard error is a terminal, what its sender risks: a recording that was compressed
@@ -220,57 +249,34 @@ fn tell_empty(rt: &HostRuntime, words: &[String]) {
     };
 }
 
-/// The row of this number, counted from 1, of a text without quotes.
-fn row_of_text(text: &str, row: u32) -> Option<&str> {
-    if text.contains('"') {
-        return None;
-    }
-    let mut left = row;
-    for line in text.split(['\n', '\r']) {
-        if !line.is_empty() {
-            if left <= 1 {
-                return Some(line);
-            }
-            left -= 1;
-        }
-    }
-    None
-}
-
-/// Tells which input can't be read, and what the system says of it.
-fn tell_reading(rt: &HostRuntime, words: &[String]) {
-    for key in ["plan", "script", "fields", "streams", "in"] {
+/// Tells the error of an input with its name, which the first of its keys that the words have gives.
+fn tell_reading(rt: &HostRuntime, words: &[String], (inlet, error): &(Inlet, io::Error)) {
+    let keys = match inlet {
+        Inlet::Main => ["in", "script", "", ""],
+        Inlet::Side => ["plan", "script", "fields", "streams"],
+    };
+    for key in keys {
         if let Some(name) = value_of(words, key) {
-            if let Some(error) = reading_cause(rt, name) {
-                let shown = Shown(name);
-                let _ = eprintln!(rt; "pocket: {shown}: {error}");
-                return;
-            }
+            return tell_error(rt, name, error);
         }
     }
 }
 
-/// Tells which output can't be written, and why, as far as the system still tells it; if it doesn't, what may be the cause.
-fn tell_writing(rt: &HostRuntime, words: &[String]) {
-    if is_printed(words, "out") && is_printed(words, "report") {
-        let _ = eprintln!(rt; "pocket: out= and report= are both standard output");
-        return;
-    }
-    for key in ["out", "report"] {
-        if let Some(name) = value_of(words, key) {
-            if told_writing(rt, words, name) {
-                return;
-            }
-        }
-    }
-    let _ = eprintln!(rt;
-        "pocket: the disk or the device is full, nobody reads the output any more, or its name or part can't be taken"
-    );
+/// Tells the error of an output with its name.
+fn tell_writing(rt: &HostRuntime, words: &[String], (outlet, error): &(Outlet, io::Error)) {
+    let key = match outlet {
+        Outlet::Main => "out",
+        Outlet::Report => "report",
+    };
+    tell_error(rt, value_of(words, key).unwrap_or(key), error);
 }
 
-/// Whether words give this key a name of standard output.
-fn is_printed(words: &[String], key: &str) -> bool {
-    value_of(words, key).is_some_and(|name| is_standard_output(name))
+/// Tells an error of the system with the name of the file, if a second line is asked for.
+pub fn tell_error(rt: &HostRuntime, name: &str, error: &io::Error) {
+    if is_asked_for(rt) {
+        let shown = Shown(name);
+        let _ = eprintln!(rt; "pocket: {shown}: {error}");
+    }
 }
 
 /// Tells where the parts of the outputs stand, with what came before the fault.

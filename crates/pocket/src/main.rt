@@ -11,12 +11,10 @@ ghost use Rattle.pocket_cmd.specs.Command.{HasCommand, command_of};
 ghost use Rattle.pocket_cmd.specs.Status.{exit_number};
 
 mod advice;
-mod causes;
 mod keys;
-mod row_faults;
 mod verb_help;
 
-use advice::{advise, caution};
+use advice::{advise, caution, tell_error};
 use desk_ports::{Desk, Failed, FileDesk};
 use pocket_cmd::{Refusal, Status, Verb, exit_code, pocket};
 use std::fs::File;
@@ -134,7 +132,7 @@ fn main(rt: HostRuntime) -> ExitCode {
     match command_line(&rt) {
         Ok(line) => answer(&rt, words(&line)),
         Err(error) if error.kind() == io::ErrorKind::OutOfMemory => {
-            ended(&rt, &[], Status::Refused(Refusal::NoMemory))
+            ended(&rt, &[], None, Status::Refused(Refusal::NoMemory))
         }
         Err(_) => {
             let _ = eprintln!(rt; "pocket: words cannot be read");
@@ -190,7 +188,7 @@ fn answer(rt: &HostRuntime, words: &[String]) -> ExitCode
         None => {
             let mut desk = FileDesk::for_command(rt, names_report(words));
             let status = run(rt, first_words(words), &mut desk);
-            ended(rt, words, status)
+            ended(rt, words, Some(&desk), status)
         }
     }
 }
@@ -246,20 +244,31 @@ fn first_words(words: &[String]) -> &[String]
 fn printed(rt: &HostRuntime, print: io::Result<()>) -> ExitCode {
     match print {
         Ok(()) => ExitCode::SUCCESS,
-        Err(_) => ended(rt, &[], Status::Refused(Refusal::WriteFault)),
+        Err(error) => {
+            let code = ended(rt, &[], None, Status::Refused(Refusal::WriteFault));
+            tell_error(rt, "-", &error);
+            code
+        }
     }
 }
 
-/// Prints a refusal on standard error, and on a terminal what these words have to do with it, or what a sender risks; and gives
-/// the exit number.
-fn ended(rt: &HostRuntime, words: &[String], status: Status) -> ExitCode
+/// Prints a refusal on standard error, and on a terminal what these words and the desk of the run have to do with it, or what a
+/// sender risks; and gives the exit number.
+fn ended<'a>(
+    rt: &HostRuntime,
+    words: &[String],
+    desk: Option<&FileDesk<'a>>,
+    status: Status,
+) -> ExitCode
     ensures { exit_status result ≡ exit_number status }
 {
     match &status {
         Status::Done => caution(rt, words),
         Status::Refused(refusal) => {
             let _ = eprintln!(rt; "pocket: {refusal}");
-            advise(rt, words, refusal);
+            if let Some(desk) = desk {
+                advise(rt, words, desk, refusal);
+            }
         }
     }
     ExitCode::from(exit_code(&status))

@@ -20,16 +20,16 @@ abbrev pub ◌>>=◌ : {A B : Type 0} → Option A → (A → Option B) → Opti
 None >>= f = None
 (Some x) >>= f = f x
 
--- the number that a field says: a plain decimal of 32 bits that is not below a least one
-abbrev pub number_in_field : List (List ℕ) → ℕ → ℕ → Option ℕ
-number_in_field fields place least = field_at fields place >>= number_of least 4294967295
+-- the number that a field says: a plain decimal within bounds
+abbrev pub field_number : List (List ℕ) → ℕ → ℕ → ℕ → Option ℕ
+field_number fields place low high = field_at fields place >>= number_of low high
 
 -- the span that three fields from a place on say: the first number, the last and the step
 abbrev pub span_from : List (List ℕ) → ℕ → Option Span
 span_from fields place = do
-  first ← number_in_field fields place 0
-  last ← number_in_field fields (place + 1) first
-  step ← number_in_field fields (place + 2) 1
+  first ← field_number fields place 0 4294967295
+  last ← field_number fields (place + 1) first 4294967295
+  step ← field_number fields (place + 2) 1 4294967295
   Some (record { first = first; last = last; step = step })
 
 -- how often a letter occurs in a text
@@ -66,7 +66,7 @@ abbrev pub robust_row_of : List (List ℕ) → Option RobustRow
 robust_row_of fields =
     if length fields == 5 then (do
       span ← span_from fields 1
-      value ← field_at fields 4 >>= number_of 0 7
+      value ← field_number fields 4 0 7
       Some (record { first = span.first; last = span.last; step = span.step; value = value }))
     else None
 
@@ -87,7 +87,7 @@ abbrev pub repeat_row_of : List (List ℕ) → Option CopyRow
 repeat_row_of fields =
     if length fields == 5 then (do
       span ← span_from fields 1
-      extra ← field_at fields 4 >>= number_of 1 8
+      extra ← field_number fields 4 1 8
       Some (copy_row span (1 + extra)))
     else None
 

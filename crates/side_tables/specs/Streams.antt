@@ -1,10 +1,8 @@
 -- Streams: an APID each, and the length of the vectors of its packets.
 use Rattle.std.specs.Prelude.{◌≡◌, ℕ, ◌<◌, ◌≤◌, nat_lt, Bool, not, ◌&&◌, ◌==◌, if◌then◌else◌, List, length, slice_index_or, All, position, Option, Some, None}
 use Rattle.std.specs.List.{list_any}
-use Rattle.csv.specs.Records.{field_at}
 use Rattle.side_tables.specs.declared.rows.StreamRow.{StreamRow}
-use Rattle.side_tables.specs.Numbers.{number_of}
-use Rattle.side_tables.specs.Grammar.{◌>>=◌}
+use Rattle.side_tables.specs.Grammar.{◌>>=◌, field_number}
 use Rattle.side_tables.specs.Texts.{Grammar, rows_of, bad_row}
 
 abbrev pub no_stream : StreamRow
@@ -40,11 +38,7 @@ AreIndexesOf rows indexes = (apid : ℕ) → slice_index_or indexes apid None �
 -- APID, bits: a stream
 abbrev pub stream_row_of : List (List ℕ) → Option StreamRow
 stream_row_of fields =
-    if length fields == 2 then (do
-      apid ← field_at fields 0 >>= number_of 0 2046
-      bits ← field_at fields 1 >>= number_of 1 49152
-      Some (record { apid = apid; bits = bits }))
-    else None
+    if length fields == 2 then (field_number fields 0 0 2046 >>= λ apid. field_number fields 1 1 49152 >>= λ bits. Some (record { apid = apid; bits = bits })) else None
 
 -- a stream after others: these are fewer than 64, and none of them has its APID
 abbrev pub stream_row_after : Grammar StreamRow

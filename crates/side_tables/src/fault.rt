@@ -21,6 +21,11 @@ pub enum SideFault {
     NoMemory,
 }
 
+/// Which part of a row is wrong, in words.
+#[derive(Clone, Copy, Debug, PartialEq, Eq, Error)]
+#[error("{0}")]
+pub struct RowFault(pub &'static str);
+
 impl From<NoMemory> for SideFault {
     ghost from_gives = { λ _ e. e ≡ fault.NoMemory };
 

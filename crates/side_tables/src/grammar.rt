@@ -1,19 +1,38 @@
 //! Which records are rows.
 
-ghost use Rattle.std.specs.Prelude.{◌≡◌, ◌<◌, ◌≤◌, IfSome};
+ghost use Rattle.std.specs.Prelude.{◌≡◌, ◌<◌, ◌≤◌, IfOk};
 ghost use Rattle.std.specs.List.{list_all, list_any};
+ghost use Rattle.std.specs.Result.{result_ok};
 ghost use Rattle.csv.specs.Records.{fields_of};
 ghost use Rattle.side_tables.specs.Rows.{IsFlagRow, IsRobustRow, IsScheduleRow, IsCopyRow, flag_span, robust_span, copy_span};
 ghost use Rattle.side_tables.specs.Spans.{IsSpan};
 ghost use Rattle.side_tables.specs.Texts.{alone};
-ghost use Rattle.side_tables.specs.Grammar.{number_in_field, span_from, flags_named, are_letters, is_letter, count_of, flag_row_of, robust_row_of, schedule_row_of, drop_row_of, repeat_row_of, copy_row_of};
+ghost use Rattle.side_tables.specs.Grammar.{field_number, span_from, flags_named, are_letters, is_letter, count_of, flag_row_of, robust_row_of, schedule_row_of, drop_row_of, repeat_row_of, copy_row_of};
 ghost use Rattle.side_tables.specs.Streams.{IsStreamRow, has_apid, stream_row_after, stream_row_of};
 
 use crate::decimal::number;
+use crate::fault::RowFault;
 use crate::rows::{CopyRow, FlagRow, RobustRow, RowGrammar, ScheduleRow, StreamRow, TableRow};
 use crate::span::Span;
 use bit_vectors::Flags;
 use csv::ByteRecord;
+
+const SCHEDULE: &str =
+    "a row of a schedule is first,last,step,flags or robust,first,last,step,value";
+
+const SCRIPT: &str = "a row of a script is drop,first,last,step or repeat,first,last,step,extra";
+
+const SCRIPT_WORD: &str = "a row of a script begins with drop or repeat";
+
+const FIRST: &str = "the first packet is no number from 0 to 4294967295 in plain digits";
+
+const LAST: &str = "the last packet is no number from the first one to 4294967295 in plain digits";
+
+const STEP: &str = "the step is no number from 1 to 4294967295 in plain digits";
+
+const APID: &str = "the APID is no number from 0 to 2046 in plain digits";
+
+const BITS: &str = "the bits are no number from 1 to 49152 in plain digits";
 
 /// The rows of a schedule.
 pub struct ScheduleText;
@@ -25,10 +44,10 @@ impl RowGrammar for ScheduleText {
 
     ghost is_right = { λ _. IsScheduleRow };
 
-    fn row(&self, _before: &[ScheduleRow], fields: &ByteRecord) -> Option<ScheduleRow> {
-        match fields.get(0)? {
-            b"robust" => Some(ScheduleRow::Robust(robust_row(fields)?)),
-            _ => Some(ScheduleRow::Flags(flag_row(fields)?)),
+    fn row(&self, _before: &[ScheduleRow], fields: &ByteRecord) -> Result<ScheduleRow, RowFault> {
+        match fields.get(0) {
+            Some(b"robust") => Ok(ScheduleRow::Robust(robust_row(fields)?)),
+            _ => Ok(ScheduleRow::Flags(flag_row(fields)?)),
         }
     }
 }
@@ -43,11 +62,11 @@ impl RowGrammar for ScriptText {
 
     ghost is_right = { λ _. IsCopyRow };
 
-    fn row(&self, _before: &[CopyRow], fields: &ByteRecord) -> Option<CopyRow> {
-        match fields.get(0)? {
+    fn row(&self, _before: &[CopyRow], fields: &ByteRecord) -> Result<CopyRow, RowFault> {
+        match fields.get(0).ok_or(RowFault(SCRIPT_WORD))? {
             b"drop" => drop_row(fields),
             b"repeat" => repeat_row(fields),
-            _ => None,
+            _ => Err(RowFault(SCRIPT_WORD)),
         }
     }
 }
@@ -65,10 +84,12 @@ impl RowGrammar for StreamText {
 
     ghost is_right = { λ _. IsStreamRow };
 
-    fn row(&self, before: &[StreamRow], fields: &ByteRecord) -> Option<StreamRow> {
+    fn row(&self, before: &[StreamRow], fields: &ByteRecord) -> Result<StreamRow, RowFault> {
         let row = stream_row(fields)?;
-        let is_new = before.len() < MOST_STREAMS && !has_apid(before, row.apid);
-        is_new.then_some(row)
+        if before.len() >= MOST_STREAMS || has_apid(before, row.apid) {
+            return Err(RowFault("an earlier row has this APID, or there are 64 rows before it"));
+        }
+        Ok(row)
     }
 }
 
@@ -121,16 +142,17 @@ impl TableRow for CopyRow {
 }
 
 /// The flags of packets.
-fn flag_row(fields: &ByteRecord) -> Option<FlagRow>
-    ensures row { result ≡ flag_row_of (fields_of fields.now) }
-    ensures right { IfSome result IsFlagRow }
+fn flag_row(fields: &ByteRecord) -> Result<FlagRow, RowFault>
+    ensures row { result_ok result ≡ flag_row_of (fields_of fields.now) }
+    ensures right { IfOk result IsFlagRow }
 {
     if fields.len() != 4 {
-        return None;
+        return Err(RowFault(SCHEDULE));
     }
     let span = span_from(fields, 0)?;
-    let flags = flags_named(fields.get(3)?)?;
-    Some(FlagRow {
+    let flags = fields.get(3).and_then(|letters| flags_named(letters));
+    let flags = flags.ok_or(RowFault("the flags are one to three of p, f and r, none twice"))?;
+    Ok(FlagRow {
         first: span.first,
         last: span.last,
         step: span.step,
@@ -139,16 +161,16 @@ fn flag_row(fields: &ByteRecord) -> Option<FlagRow>
 }
 
 /// The required robustness of packets.
-fn robust_row(fields: &ByteRecord) -> Option<RobustRow>
-    ensures row { result ≡ robust_row_of (fields_of fields.now) }
-    ensures right { IfSome result IsRobustRow }
+fn robust_row(fields: &ByteRecord) -> Result<RobustRow, RowFault>
+    ensures row { result_ok result ≡ robust_row_of (fields_of fields.now) }
+    ensures right { IfOk result IsRobustRow }
 {
     if fields.len() != 5 {
-        return None;
+        return Err(RowFault(SCHEDULE));
     }
     let span = span_from(fields, 1)?;
-    let value = number(fields.get(4)?, 0, 7)?;
-    Some(RobustRow {
+    let value = field_number(fields, 4, 0, 7, "the value is no number from 0 to 7")?;
+    Ok(RobustRow {
         first: span.first,
         last: span.last,
         step: span.step,
@@ -157,15 +179,15 @@ fn robust_row(fields: &ByteRecord) -> Option<RobustRow>
 }
 
 /// The packets that are dropped.
-fn drop_row(fields: &ByteRecord) -> Option<CopyRow>
-    ensures row { result ≡ drop_row_of (fields_of fields.now) }
-    ensures right { IfSome result IsCopyRow }
+fn drop_row(fields: &ByteRecord) -> Result<CopyRow, RowFault>
+    ensures row { result_ok result ≡ drop_row_of (fields_of fields.now) }
+    ensures right { IfOk result IsCopyRow }
 {
     if fields.len() != 4 {
-        return None;
+        return Err(RowFault(SCRIPT));
     }
     let span = span_from(fields, 1)?;
-    Some(CopyRow {
+    Ok(CopyRow {
         first: span.first,
         last: span.last,
         step: span.step,
@@ -174,16 +196,22 @@ fn drop_row(fields: &ByteRecord) -> Option<CopyRow>
 }
 
 /// The packets that are repeated.
-fn repeat_row(fields: &ByteRecord) -> Option<CopyRow>
-    ensures row { result ≡ repeat_row_of (fields_of fields.now) }
-    ensures right { IfSome result IsCopyRow }
+fn repeat_row(fields: &ByteRecord) -> Result<CopyRow, RowFault>
+    ensures row { result_ok result ≡ repeat_row_of (fields_of fields.now) }
+    ensures right { IfOk result IsCopyRow }
 {
     if fields.len() != 5 {
-        return None;
+        return Err(RowFault(SCRIPT));
     }
     let span = span_from(fields, 1)?;
-    let extra = number(fields.get(4)?, 1, 8)?;
-    Some(CopyRow {
+    let extra = field_number(
+        fields,
+        4,
+        1,
+        8,
+        "the extra copies are no number from 1 to 8",
+    )?;
+    Ok(CopyRow {
         first: span.first,
         last: span.last,
         step: span.step,
@@ -192,16 +220,16 @@ fn repeat_row(fields: &ByteRecord) -> Option<CopyRow>
 }
 
 /// The APID and the bits of a stream.
-fn stream_row(fields: &ByteRecord) -> Option<StreamRow>
-    ensures row { result ≡ stream_row_of (fields_of fields.now) }
-    ensures right { IfSome result IsStreamRow }
+fn stream_row(fields: &ByteRecord) -> Result<StreamRow, RowFault>
+    ensures row { result_ok result ≡ stream_row_of (fields_of fields.now) }
+    ensures right { IfOk result IsStreamRow }
 {
     if fields.len() != 2 {
-        return None;
+        return Err(RowFault("a row of streams is apid,bits"));
     }
-    let apid = number(fields.get(0)?, 0, 2046)?;
-    let bits = number(fields.get(1)?, 1, 49_152)?;
-    Some(StreamRow {
+    let apid = field_number(fields, 0, 0, 2046, APID)?;
+    let bits = field_number(fields, 1, 1, 49_152, BITS)?;
+    Ok(StreamRow {
         apid: apid as u16,
         bits,
     })
@@ -215,23 +243,33 @@ fn has_apid(rows: &[StreamRow], apid: u16) -> bool
 }
 
 /// The first number, the last number and the step that three fields say.
-fn span_from(fields: &ByteRecord, place: usize) -> Option<Span>
+fn span_from(fields: &ByteRecord, place: usize) -> Result<Span, RowFault>
     requires { place < 4 }
-    ensures span { result ≡ span_from (fields_of fields.now) place }
-    ensures right { IfSome result IsSpan }
+    ensures span { result_ok result ≡ span_from (fields_of fields.now) place }
+    ensures right { IfOk result IsSpan }
 {
-    let first = number_in_field(fields, place, 0)?;
-    let last = number_in_field(fields, place + 1, first)?;
-    let step = number_in_field(fields, place + 2, 1)?;
-    Some(Span { first, last, step })
+    let first = field_number(fields, place, 0, u32::MAX, FIRST)?;
+    let last = field_number(fields, place + 1, first, u32::MAX, LAST)?;
+    let step = field_number(fields, place + 2, 1, u32::MAX, STEP)?;
+    Ok(Span { first, last, step })
 }
 
-/// The number that a field says, if it is not below a least one.
-fn number_in_field(fields: &ByteRecord, place: usize, least: u32) -> Option<u32>
-    ensures number { result ≡ number_in_field (fields_of fields.now) place least }
-    ensures least { IfSome result (λ number. least ≤ number) }
+/// The number from `low` to `high` that a field says, or why it says none.
+fn field_number(
+    fields: &ByteRecord,
+    place: usize,
+    low: u32,
+    high: u32,
+    why: &'static str,
+) -> Result<u32, RowFault>
+    ensures number { result_ok result ≡ field_number (fields_of fields.now) place low high }
+    ensures low { IfOk result (λ number. low ≤ number) }
+    ensures high { IfOk result (λ number. number ≤ high) }
 {
-    number(fields.get(place)?, least, u32::MAX)
+    match fields.get(place) {
+        None => Err(RowFault(why)),
+        Some(text) => number(text, low, high).ok_or(RowFault(why)),
+    }
 }
 
 /// The flags that letters name: `p`, `f` and `r`, each at most once and in any order.

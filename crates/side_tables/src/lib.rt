@@ -18,7 +18,8 @@ mod table;
 mod text;
 
 pub use decimal::{number, signed_number, wide_number};
-pub use fault::SideFault;
+pub use fault::{RowFault, SideFault};
+pub use grammar::{ScheduleText, ScriptText, StreamText};
 pub use laws::{robustness_of_texts, streams_of_texts};
 pub use lookup::{CopyLookup, Lookup, Planned};
 pub use rows::{CopyRow, FlagRow, RobustRow, RowGrammar, StreamRow, TableRow};
@@ -27,4 +28,4 @@ pub use script::Script;
 pub use span::Span;
 pub use streams::Streams;
 pub use table::Table;
-pub use text::{MOST_TEXT_BYTES, read_rows};
+pub use text::{MOST_TEXT_BYTES, read_rows, wrong_row};

@@ -1,10 +1,12 @@
 //! The rows of schedules, scripts and texts of streams.
 
-ghost use Rattle.std.specs.Prelude.{◌≡◌, ℕ, List, Option, All, IfSome};
+ghost use Rattle.std.specs.Prelude.{◌≡◌, ℕ, List, Option, All, IfOk};
+ghost use Rattle.std.specs.Result.{result_ok};
 ghost use Rattle.csv.specs.Records.{fields_of};
 ghost use Rattle.side_tables.specs.declared.span.Span.{Span as Numbers};
 ghost use Rattle.side_tables.specs.Spans.{IsSpan};
 
+use crate::fault::RowFault;
 use crate::span::Span;
 use bit_vectors::Flags;
 use csv::ByteRecord;
@@ -61,11 +63,11 @@ pub trait RowGrammar {
 
     ghost is_right: { Self → Self.Row → Type 0 };
 
-    /// The row that the record is after these rows, if it is one.
-    fn row(&self, before: &[Self::Row], fields: &ByteRecord) -> Option<Self::Row>
+    /// The row that the record is after these rows, or which part of it is wrong.
+    fn row(&self, before: &[Self::Row], fields: &ByteRecord) -> Result<Self::Row, RowFault>
         requires { All (is_right self.now) before.now }
-        ensures row { result ≡ row_after self.now before.now (fields_of fields.now) }
-        ensures right { IfSome result (is_right self.now) };
+        ensures row { result_ok result ≡ row_after self.now before.now (fields_of fields.now) }
+        ensures right { IfOk result (is_right self.now) };
 }
 
 /// A row of a table: what it says holds for each packet that it names.

@@ -4,9 +4,9 @@ ghost use Rattle.std.specs.Prelude.{◌≡◌, ◌<◌, All, IfOk, IfErr};
 ghost use Rattle.csv.specs.Reading.{error_kind};
 ghost use Rattle.side_tables.specs.Texts.{AreRowsOf, CanCome, IsFaultOf};
 
-use crate::fault::SideFault;
+use crate::fault::{RowFault, SideFault};
 use crate::rows::RowGrammar;
-use csv::ReaderBuilder;
+use csv::{ByteRecord, ReaderBuilder};
 use std::alloc::Global;
 
 /// The most bytes of a text.
@@ -37,7 +37,7 @@ pub fn read_rows<G: RowGrammar>(
             Ok(record) => record,
             Err(error) => return Err(refused(&error)),
         };
-        let Some(row) = grammar.row(&rows, &record) else {
+        let Ok(row) = grammar.row(&rows, &record) else {
             return Err(SideFault::Row {
                 row: rows.len() as u32 + 1,
             });
@@ -47,6 +47,35 @@ pub fn read_rows<G: RowGrammar>(
         }
     }
     Ok(rows)
+}
+
+/// The first record of a text that is not a row by a grammar, and which part of it is wrong. It is told of a text that `read_rows`
+/// refused; no clause speaks of it.
+pub fn wrong_row<G: RowGrammar>(
+    alloc: Global,
+    grammar: &G,
+    text: &[u8],
+) -> Option<(ByteRecord, RowFault)> {
+    let records = ReaderBuilder::new()
+        .has_headers(false)
+        .flexible(true)
+        .from_reader(alloc, text)
+        .into_byte_records();
+    let mut rows = Vec::new(alloc);
+    'records: for record in records {
+        let Ok(record) = record else {
+            return None;
+        };
+        match grammar.row(&rows, &record) {
+            Err(fault) => return Some((record, fault)),
+            Ok(row) => {
+                if rows.push(row).is_err() {
+                    return None;
+                }
+            }
+        }
+    }
+    None
 }
 
 /// What it means if `csv` can't read a record of a text in memory: an allocation was refused. Each record may have a

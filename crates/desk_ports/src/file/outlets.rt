@@ -9,7 +9,11 @@ use super::FileDesk;
 use crate::desk::Outlet;
 use crate::part::refused;
 use crate::sink::Sink;
+use crate::write_faults::at;
 use std::io;
+
+/// Why nothing is written or finished yet.
+pub(super) const UNOPENED: &str = "the other output is still to be opened";
 
 impl<'a> FileDesk<'a> {
     // Opens what the bytes of an outlet go to. If it fails, no part is left that was made for the other one and is not begun.
@@ -53,7 +57,11 @@ impl<'a> FileDesk<'a> {
     }
 
     // Begins to write what is opened for an outlet, and the other one, unless that is still to be opened.
-    pub(super) fn begin(&mut self, outlet: Outlet, sink: &mut Sink) -> io::Result<()>
+    pub(super) fn begin(
+        &mut self,
+        outlet: Outlet,
+        sink: &mut Sink,
+    ) -> Result<(), (Outlet, io::Error)>
         ensures opened { is_opened_sink sink.new ≡ is_opened_sink sink.old }
         ensures steady { IsSteady sink.old sink.new }
         ensures meaning { file_meanings self.new ≡ file_meanings self.old }
@@ -74,16 +82,16 @@ impl<'a> FileDesk<'a> {
         if self.has_report && self.is_alone(outlet) {
             return Ok(());
         }
-        sink.begin(self.rt)?;
+        at(outlet, sink.begin(self.rt))?;
         match outlet {
-            Outlet::Main => self.report.begin(self.rt),
-            Outlet::Report => self.output.begin(self.rt),
+            Outlet::Main => at(Outlet::Report, self.report.begin(self.rt)),
+            Outlet::Report => at(Outlet::Main, self.output.begin(self.rt)),
         }
     }
 
     // Hands everything to the system that was gathered for both outlets, and finishes one of them. If the other one is
     // finished too, both parts take their names, which is last of all. It fails if an outlet is still to be opened.
-    pub(super) fn end(&mut self, outlet: Outlet) -> io::Result<()>
+    pub(super) fn end(&mut self, outlet: Outlet) -> Result<(), (Outlet, io::Error)>
         requires { IsReadyOut (file_meanings self.old) outlet }
         ensures meaning { file_meanings self.new ≡ file_meanings self.old }
         ensures faults { self.new.write_faults ≡ self.old.write_faults }
@@ -110,19 +118,19 @@ impl<'a> FileDesk<'a> {
             → IsErr result × SameOutlets self.old self.new }
     {
         if self.awaits_outlet() {
-            return Err(refused());
+            return Err((outlet, refused(UNOPENED)));
         }
-        self.output.flush()?;
-        self.report.flush()?;
+        at(Outlet::Main, self.output.flush())?;
+        at(Outlet::Report, self.report.flush())?;
         match outlet {
-            Outlet::Main => self.output.finish()?,
-            Outlet::Report => self.report.finish()?,
+            Outlet::Main => at(outlet, self.output.finish())?,
+            Outlet::Report => at(outlet, self.report.finish())?,
         }
         if self.output.is_unfinished() || self.report.is_unfinished() {
             return Ok(());
         }
-        self.report.look(self.rt)?;
-        self.output.take_name(self.rt)?;
-        self.report.take_name(self.rt)
+        at(Outlet::Report, self.report.look(self.rt))?;
+        at(Outlet::Main, self.output.take_name(self.rt))?;
+        at(Outlet::Report, self.report.take_name(self.rt))
     }
 }

@@ -1,5 +1,5 @@
-use Rattle.std.proofs.Common.{Bor, List, ℕ, ◌≡◌, ◌<◌, ◌∙◌, sym, refl, rules, arith, inl, inr, true, Some, ◌∷◌, [], ◌++◌, length}
-use Rattle.std.specs.Result.{is_ok}
+use Rattle.std.proofs.Common.{Bor, List, ℕ, ◌≡◌, ◌<◌, ◌∙◌, ap, sym, refl, rules, arith, inl, inr, true, Some, ◌∷◌, [], ◌++◌, length}
+use Rattle.std.specs.Result.{is_ok, result_ok}
 use Rattle.std.proofs.lemmas.List.Elements.{All-nil, All-push}
 use Rattle.csv.specs.Reading.{Reached, default_config, strip_bom}
 use Rattle.csv.specs.Records.{fields_of}
@@ -38,7 +38,7 @@ fewer : (g : Over) (c : goal.After-len g) → c.len.result < length c.args.text.
 fewer g c =
     let inv = c.records.invariant in
     let s = rw (c.in-Some.is, c.in-Ok.is) at ((c.next.ensures.steps inv.3 inv.1).0 inv.2) in
-    let none = sym (rw c.deref.ensures.value at c.row.ensures.row) ∙ c.in_default.is in
+    let none = sym (rw c.deref.ensures.value at c.row.ensures.row) ∙ ap result_ok c.in_default.is in
     let count : c.len.result ≡ length c.records.rows.items = search rules in
     rw count (bad_row-read (g.G.RowGrammar.row_after c.args.grammar.now) c.args.text c.records.record-iterator.rdr c.next.new.self.rdr inv.6 inv.7 c.records.rows.items (fields_of c.in-Ok.record) inv.4 inv.8 inv.9 inv.10 none s.0).1
 
@@ -64,7 +64,7 @@ pub returns-in_default-clause-fault : goal.returns-in_default-clause-fault
 returns-in_default-clause-fault g c =
     let inv = c.records.invariant in
     let s = rw (c.in-Some.is, c.in-Ok.is) at ((c.next.ensures.steps inv.3 inv.1).0 inv.2) in
-    let none = sym (rw c.deref.ensures.value at c.row.ensures.row) ∙ c.in_default.is in
+    let none = sym (rw c.deref.ensures.value at c.row.ensures.row) ∙ ap result_ok c.in_default.is in
     let count : c.len.result ≡ length c.records.rows.items = search rules in
     (inv.5, rw count (bad_row-read (g.G.RowGrammar.row_after c.args.grammar.now) c.args.text c.records.record-iterator.rdr c.next.new.self.rdr inv.6 inv.7 c.records.rows.items (fields_of c.in-Ok.record) inv.4 inv.8 inv.9 inv.10 none s.0).0)
 
@@ -75,9 +75,9 @@ records-preserved g c =
     let m = rows-more (λ (s : Bor (List ℕ)). Some s.now) c.records.record-iterator.rdr c.next.new.self.rdr (fields_of c.in-Ok.record) default_config st.StartRecord (strip_bom c.args.text.now) inv.6 inv.7 inv.4 inv.8 inv.9 s.0 in
     let good : is_ok c.push.result ≡ true = search rules in
     let items = rw good at c.push.ensures.items in
-    let is = sym (rw c.deref.ensures.value at c.row.ensures.row) ∙ c.in-Some-row.is in
-    let right = rw c.in-Some-row.is at c.row.ensures.right in
-    ((rw (c.in-Some.is, c.in-Ok.is) at (c.next.ensures.steps inv.3 inv.1).3) ∙ inv.0, s.0.3 ∙ inv.1, inl s.1, s.2, s.0.2 ∙ inv.4, inv.5, m.0, inv.7 ++ fields_of c.in-Ok.record ∷ [], m.1, m.2, rw items (AreGood-more (g.G.RowGrammar.row_after c.args.grammar.now) inv.7 c.records.rows.items (fields_of c.in-Ok.record) c.in-Some-row.row inv.10 is), rw items (All-push (g.G.RowGrammar.is_right c.args.grammar.now) c.records.rows.items c.in-Some-row.row inv.11 right))
+    let is = sym (rw c.deref.ensures.value at c.row.ensures.row) ∙ ap result_ok c.in-Ok-row.is in
+    let right = rw c.in-Ok-row.is at c.row.ensures.right in
+    ((rw (c.in-Some.is, c.in-Ok.is) at (c.next.ensures.steps inv.3 inv.1).3) ∙ inv.0, s.0.3 ∙ inv.1, inl s.1, s.2, s.0.2 ∙ inv.4, inv.5, m.0, inv.7 ++ fields_of c.in-Ok.record ∷ [], m.1, m.2, rw items (AreGood-more (g.G.RowGrammar.row_after c.args.grammar.now) inv.7 c.records.rows.items (fields_of c.in-Ok.record) c.in-Ok-row.row inv.10 is), rw items (All-push (g.G.RowGrammar.is_right c.args.grammar.now) c.records.rows.items c.in-Ok-row.row inv.11 right))
 
 pub returns-clause-rows : goal.returns-clause-rows
 returns-clause-rows g c =
