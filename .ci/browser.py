@@ -3,18 +3,17 @@
 
 At the top, after the gate's proofs: .ci/browser.py. It makes the page (`make page`), and a second one that has its tests (page/tests) and
 what the program crates/pocket/out/pocket does with the commands of .ci/browser_cases.py: each command byte for byte, and what the page says
-of itself. Then keys are pressed in the page as it ships, what it says of the packet under them is held to the program's forecast, and its
-picture is taken. It is given files and hands (.ci/browser_ways.py) and looked at in windows of several sizes (.ci/browser_looks.py), and
-Debian's eslint reads its scripts. A browser, wasm-opt or eslint that is not there and can't be had from Debian's packages (as root), is
-skipped with what needs it, by name; and so is what a browser can't be told (CAN_NOT). Its last line is 'N passed, M failed', or 'N passed,
-M failed, K skipped'.
+of itself. Then keys are pressed in the page as it ships, and what it says of the packet under them is held to the program's forecast. It is
+given files and hands (.ci/browser_ways.py) and looked at in windows of several sizes (.ci/browser_looks.py), and Debian's eslint reads its
+scripts. What is not there of Debian's packages (.ci/needs.py) is skipped with what needs it, by name; and so is what a browser can't be told
+(CAN_NOT). Its last line is 'N passed, M failed', or 'N passed, M failed, K skipped'.
 
-.ci/browser.py BROWSER .. tries these browsers alone. MACHINE=FILE in the environment takes another file for page/worker/machine.js, to see
-that the tests fail.
+.ci/browser.py BROWSER .. tries these browsers alone.
 """
 
 import json
 import os
+import pathlib
 import re
 import shutil
 import subprocess
@@ -22,44 +21,37 @@ import sys
 import tempfile
 
 sys.dont_write_bytecode = True
+TOP = os.path.dirname(os.path.dirname(os.path.abspath(__file__)))
+sys.path += [f"{TOP}/page", f"{TOP}/tests"]
 import browser_cases
 import browser_files
 import browser_looks
 import browser_ways
-from webdriver import NEEDS, Browser
-
-TOP = os.path.dirname(os.path.dirname(os.path.abspath(__file__)))
-sys.path.append(f"{TOP}/page")
 import make
+from webdriver import NEEDS, Browser
 
 PROGRAM = f"{TOP}/crates/pocket/out/pocket"
 PAGE, MODULE = f"{TOP}/page/pocket.html", f"{TOP}/page/out/pocket.wasm"
-PACKAGES = {"wasm-opt": "binaryen", "eslint": "eslint"}
+MAKERS, LINTER = {"wasm-opt": "binaryen", "esbuild": "esbuild"}, {"eslint": "eslint"}
 LIMIT = 600  # seconds for all tests of the page
-MOST_BYTES, LEAST_PICTURE = 800_000, 40_000
-CLOSING = re.compile(r"^(\d+) passed, (\d+) failed$", re.M)
+MOST_BYTES = 800_000
 BUILD, OWN = "the page is built", "the page's own tests"
 # What a driver can't do with its browser.
 CAN_NOT = {"firefox": {"fingers": "its driver's fingers scroll nothing", "paper and forced colours": "its driver sets neither"},
            "webkit": {"the wheel": "its driver turns no wheel", "fingers": "its driver has no fingers", "files that are saved": "it asks where",
                       "paper and forced colours": "its driver sets neither"}}
 WAYS = [
-    ("the page as it ships", lambda browser, *_: tell_shipped(browser)), ("its picture", lambda browser, *_: tell_picture(browser)),
-    ("the wheel", browser_ways.tell_wheel), ("fingers", browser_ways.tell_fingers), ("a drag", browser_ways.tell_drag),
-    ("a store of a million packets", browser_ways.tell_million), ("forty fields of 100,000 packets", browser_ways.tell_fields),
-    ("typing in 10,000 rows", browser_ways.tell_typing), ("a gigabyte that is no store", browser_ways.tell_no_store),
+    ("the page as it ships", lambda browser, *_: tell_shipped(browser)), ("its picture", browser_looks.tell_picture), ("the wheel", browser_ways.tell_wheel), ("fingers", browser_ways.tell_fingers),
+    ("a drag", browser_ways.tell_drag), ("a store of a million packets", browser_ways.tell_million), ("forty fields of 100,000 packets", browser_ways.tell_fields),
+    ("typing in 10,000 rows", browser_ways.tell_typing), ("losses in 11,264 stretches", browser_ways.tell_losses),
+    ("a gigabyte that is no store", browser_ways.tell_no_store),
     ("cancel, and a file that is gone", browser_ways.tell_cancel), ("a module that can't start", browser_ways.tell_start),
-    ("sizes of a window", browser_looks.tell_sizes), ("the answers first", browser_looks.tell_answers), ("paper and forced colours", browser_looks.tell_media), ("names, roles and contrast", browser_looks.tell_names),
-    ("files that are saved", browser_looks.tell_saved), ("its policy", browser_looks.tell_policy),
+    ("sizes of a window", browser_looks.tell_sizes), ("the answers first", browser_looks.tell_answers), ("paper and forced colours", browser_looks.tell_media),
+    ("names, roles and contrast", browser_looks.tell_names), ("files that are saved", browser_looks.tell_saved), ("its policy", browser_looks.tell_policy),
 ]
 LINT = "its scripts, read by eslint"
 # Debian's eslint finds its modules here, whatever node there is.
 NODE_PATH = "/usr/share/nodejs:/usr/lib/nodejs"
-
-
-def missing(packages):
-    """The packages of some commands that are not there (.ci/needs.py)."""
-    return [package for name, package in packages.items() if not shutil.which(name)]
 
 
 def lint():
@@ -75,33 +67,21 @@ def build(folder):
     if made.returncode:
         raise RuntimeError((made.stdout + made.stderr)[-600:])
     found, cases = os.path.join(folder, "tests.html"), os.path.join(folder, "cases.json")
-    with open(cases, "w", encoding="ascii") as file:
-        json.dump(browser_cases.cases(PROGRAM), file)
-    machine = os.environ.get("MACHINE")
-    place = f"{TOP}/page" if not machine else shutil.copytree(f"{TOP}/page", os.path.join(folder, "top", "page"))
-    if machine:
-        os.makedirs(os.path.join(folder, "top", "crates", "pocket", "src"))
-        shutil.copyfile(f"{TOP}/crates/pocket/src/main.rt", os.path.join(folder, "top", "crates", "pocket", "src", "main.rt"))
-        shutil.copyfile(machine, os.path.join(place, "worker", "machine.js"))
-    subprocess.run([sys.executable, f"{place}/make.py", MODULE, found, cases], check=True)
+    pathlib.Path(cases).write_text(json.dumps(browser_cases.cases(PROGRAM)), "ascii")
+    subprocess.run([sys.executable, f"{TOP}/page/make.py", MODULE, found, cases], check=True)
     return found
 
 
-def run_own(browser, page):
-    """What the page's own tests tell: how many passed, and the lines of those that failed."""
+def tell_own(browser, page, tally):
+    """Tells what the page's own tests do, each a line that begins with 'ok' or 'FAILED'."""
     browser.open(f"file://{page}#tests")
     told = "(document.getElementById('tests')?.textContent ?? '')"
     text = browser.wait(f"/\\d+ passed, \\d+ failed\\s*$/.test({told}) && {told}", LIMIT)
     if not text:
-        raise RuntimeError(f"the tests did not end: {browser.value(told)[-900:]!r}, {browser.value('document.body.innerText')[:200]!r}")
-    passed, failed = map(int, CLOSING.findall(text)[-1])
-    lines = [line for line in text.splitlines() if line.startswith("FAILED ")]
-    return passed, max(failed, len(lines)), lines
-
-
-def stretches(text):
-    """The stretches of a forecast: first and last packet, and the state."""
-    return [(int(first), int(last), state) for first, last, state in re.findall(r"^(\d+),(\d+),(sure|open|lost)$", text, re.M)]
+        return f"the tests did not end: {browser.value(told)[-900:]!r}, {browser.value('document.body.innerText')[:200]!r}"
+    for line in text.strip().splitlines()[:-1]:
+        tally.tell(browser.name, None if line.startswith("ok ") else line)
+    return None
 
 
 def tell_shipped(browser):
@@ -115,10 +95,10 @@ def tell_shipped(browser):
         return f"it says nothing: {browser.value('document.body.innerText')[:300]!r}"
     inputs = {"p": b"20,20,1,fr", "s": b"drop,3,3,1\ndrop,10,13,1"}
     forecast = browser_cases.ran(PROGRAM, "forecast out=y packets=30 robust=1 plan=p script=s".split(), inputs)[2]["y"].decode()
+    states = {number: state for first, last, state in re.findall(r"^(\d+),(\d+),(sure|open|lost)$", forecast, re.M) for number in range(int(first), int(last) + 1)}
     browser.value("document.getElementById('forecast-strip').focus()")
     browser.press("Home")
-    for number in range(30):
-        state = next(state for first, last, state in stretches(forecast) if first <= number <= last)
+    for number, state in sorted(states.items()):
         text = browser.wait(f"(/^packet {number}\\b/i.test({said}) || null) && {said}", 30)
         if not text or not re.search(rf"\b{state}\b", text):
             return f"it says {text or browser.value(said)!r} of packet {number}, which is {state}"
@@ -131,21 +111,8 @@ def tell_shipped(browser):
     return f"it asked for {asked}" if asked else None
 
 
-def tell_picture(browser):
-    """What is wrong with the pictures in light and dark, or None: that they show something, each something else."""
-    seen = []
-    for light in ("light", "dark"):
-        is_told, png = browser.light(light), browser.picture()
-        with open(f"{TOP}/page/out/{browser.name}-{light}.png", "wb") as file:
-            file.write(png)
-        if len(png) < LEAST_PICTURE:
-            return f"the {light} one has {len(png)} bytes"
-        seen.append(png)
-    return "light and dark look the same" if is_told and seen[0] == seen[1] else None
-
-
 class Tally:
-    """How much passed and failed, and a line for each fault."""
+    """How much passed and failed and was skipped, and a line for each fault."""
 
     def __init__(self):
         self.passed = self.failed = self.skipped = 0
@@ -156,7 +123,6 @@ class Tally:
             print(f"browser: {name}: {fault}", flush=True)
 
     def skip(self, names, why):
-        """Tells what is skipped."""
         self.skipped += len(names)
         for name in names:
             print(f"browser: skipped: {name}: {why}", flush=True)
@@ -164,26 +130,27 @@ class Tally:
     def attempt(self, name, step, *given):
         """Tells what a step finds wrong, or that it raised an error."""
         try:
-            self.tell(name, step(*given))
+            fault = step(*given)
         except (RuntimeError, OSError, ValueError, subprocess.SubprocessError) as error:
-            self.tell(name, f"it raised {error}")
+            fault = f"it raised {error}"
+        self.tell(name, fault)
 
-    def add(self, name, passed, failed, lines):
-        """Adds what the page's own tests told."""
-        self.passed, self.failed = self.passed + passed, self.failed + failed
-        for line in lines:
-            print(f"browser: {name}: {line}", flush=True)
+    def has(self, packages, names):
+        """Whether these commands are there, each of a package of Debian (.ci/needs.py); if not, what needs them is skipped."""
+        lacks = [package for command, package in packages.items() if not shutil.which(command)]
+        if lacks:
+            self.skip(names, f"Debian's {', '.join(lacks)} is not there")
+        return not lacks
 
 
 def try_browser(name, own, files, tally):
     """Tries the page in a browser."""
     browser = Browser(name)
     try:
-        tally.attempt(f"{name}: {OWN}", lambda: tally.add(name, *run_own(browser, own)))
+        tally.attempt(f"{name}: {OWN}", tell_own, browser, own, tally)
         for way, tell in WAYS:
-            why = CAN_NOT.get(name, {}).get(way)
-            if why:
-                tally.skip([f"{name}: {way}"], why)
+            if way in CAN_NOT.get(name, {}):
+                tally.skip([f"{name}: {way}"], CAN_NOT[name][way])
             else:
                 tally.attempt(f"{name}: {way}", tell, browser, PAGE, files)
     finally:
@@ -196,26 +163,18 @@ def try_all(folder, names, tally):
     tally.attempt(BUILD, lambda: made.append(build(folder)))
     files = browser_files.files(PROGRAM, folder) if made else None
     for name in names if made else []:
-        lacks = missing(NEEDS[name])
-        if lacks:
-            tally.skip([f"{name}: {it}" for it in (OWN, *(way for way, _ in WAYS))], f"Debian's {', '.join(lacks)} is not there")
-        else:
+        if tally.has(NEEDS[name], [f"{name}: {it}" for it in (OWN, *(way for way, _ in WAYS))]):
             tally.attempt(f"{name} begins", try_browser, name, made[0], files, tally)
 
 
 def main():
-    names = sys.argv[1:] or list(NEEDS)
+    names, tally = sys.argv[1:] or list(NEEDS), Tally()
     if not set(names) <= set(NEEDS):
         sys.exit(__doc__)
-    lacks, tally = missing(PACKAGES), Tally()
-    if "binaryen" in lacks:
-        tally.skip([BUILD, *names], "Debian's binaryen is not there")
-    else:
+    if tally.has(MAKERS, [BUILD, *names]):
         with tempfile.TemporaryDirectory(prefix="pocket-browser-") as folder:
             try_all(folder, names, tally)
-    if "eslint" in lacks:
-        tally.skip([LINT], "Debian's eslint is not there")
-    else:
+    if tally.has(LINTER, [LINT]):
         tally.attempt(LINT, lint)
     print(f"{tally.passed} passed, {tally.failed} failed" + (f", {tally.skipped} skipped" if tally.skipped else ""))
     sys.exit(1 if tally.failed else 0)

@@ -1,7 +1,7 @@
 """The commands that the page runs in a browser, and what the program does with each."""
 
 import base64
-import os
+import pathlib
 import random
 import subprocess
 import tempfile
@@ -24,13 +24,19 @@ def is_told(row):
             and all(isinstance(content, bytes) and len(content) < MOST_BYTES for content in row["before"].values()))
 
 
-def scattered(store):
-    """The packets of a store, of at most 65,536 bytes each, out of order: each at most some places from its own."""
-    draw, packets, place = random.Random(SEED), [], 0
+def packets_of(store):
+    """The packets of a store."""
+    packets, place = [], 0
     while place < len(store):
         end = place + 7 + int.from_bytes(store[place + 4:place + 6], "big")
         packets.append(store[place:end])
         place = end
+    return packets
+
+
+def scattered(store):
+    """The packets of a store out of order: each at most some places from its own."""
+    draw, packets = random.Random(SEED), packets_of(store)
     order = sorted(range(len(packets)), key=lambda t: t + draw.random() * SCATTERED)
     return b"".join(packets[t] for t in order)
 
@@ -66,17 +72,12 @@ def large(program):
 def ran(program, words, inputs):
     """What the program does over files: its exit number, the text of the refusal, and what then stands under the names that it writes."""
     with tempfile.TemporaryDirectory(prefix="pocket-browser-") as folder:
-        at = lambda name: os.path.join(folder, name)
+        at = lambda name: pathlib.Path(folder, name)
         for name, content in inputs.items():
-            with open(at(name), "wb") as file:
-                file.write(content)
+            at(name).write_bytes(content)
         done = subprocess.run([program, *words], cwd=folder, stdin=subprocess.DEVNULL, capture_output=True, timeout=LIMIT)
-        outputs = {}
-        for name in (word.partition("=")[2] for word in words if word.startswith(NAMED)):
-            outputs[name] = b""
-            if name and os.path.isfile(at(name)):
-                with open(at(name), "rb") as file:
-                    outputs[name] = file.read()
+        names = [word.partition("=")[2] for word in words if word.startswith(NAMED)]
+        outputs = {name: at(name).read_bytes() if at(name).is_file() else b"" for name in names}
     return done.returncode, done.stderr.decode().removeprefix("pocket: ").removesuffix("\n"), outputs
 
 

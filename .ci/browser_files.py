@@ -2,23 +2,24 @@
 
 import array
 import os
+import pathlib
 import random
+import re
 
-from browser_cases import ran
+from browser_cases import packets_of, ran
 from rows import sample
 
 MILLION, GIGABYTE = 1_000_000, 1 << 30
+STRETCHES = 11_264
 SEED = 70
-LOSSES = b"drop,5,999999,11\n"  # nine in a hundred
 FIELDS, PACKETS = 40, 100_000
 
 
 def put(folder, name, content):
     """Writes a file, and gives its path."""
-    path = os.path.join(folder, name)
-    with open(path, "wb") as file:
-        file.write(content)
-    return path
+    path = pathlib.Path(folder, name)
+    path.write_bytes(content)
+    return str(path)
 
 
 def sparse(folder, name, front, every=None):
@@ -32,16 +33,28 @@ def sparse(folder, name, front, every=None):
     return path
 
 
-def million_of(program, folder):
-    """A store of a million packets of which some were lost, and how many its report says arrived and were written."""
-    words = array.array("Q", (t * 0x10001 for t in range(MILLION)))
+def store_of(program, count, apid=100):
+    """A store of so many packets of which nine in a hundred were lost."""
+    words = array.array("Q", (t * 0x10001 for t in range(count)))
     words.byteswap()
     plan = b"0,4294967295,20,p\n45,4294967295,45,fr\n"
-    store = ran(program, "compress in=r out=s bits=64 apid=100 robust=2 plan=p".split(), {"r": words.tobytes(), "p": plan})[2]["s"]
-    played = ran(program, "play in=s out=t report=u script=l apid=100".split(), {"s": store, "l": LOSSES})[2]["t"]
-    report = ran(program, "restore in=t out=o report=u bits=64 apid=100".split(), {"t": played})[2]["u"]
-    arrived, written = report.decode().split("\nend,")[1].split(",")[:2]
-    return put(folder, "million.store", played), (int(arrived), int(written))
+    store = ran(program, f"compress in=r out=s bits=64 apid={apid} robust=2 plan=p".split(), {"r": words.tobytes(), "p": plan})[2]["s"]
+    return ran(program, f"play in=s out=t report=u script=l apid={apid}".split(), {"s": store, "l": b"drop,5,%d,11\n" % (count - 1)})[2]["t"]
+
+
+def report_of(program, store, apid=100):
+    """The report of a store's APID."""
+    return ran(program, f"restore in=t out=o report=u bits=64 apid={apid}".split(), {"t": store})[2]["u"].decode()
+
+
+def answers_of(program, folder):
+    """A store of two APIDs, with three packets damaged, and what the page is to say of it: the third of them, and which APID lost most."""
+    packets = [bytearray(it) for it in packets_of(store_of(program, 300, 101))]
+    for packet in packets[50:151:50]:
+        packet[6] ^= 0x40
+    store, lost = store_of(program, 200) + b"".join(packets), [len(range(5, count, 11)) for count in (200, 300)]
+    first, bit = re.findall(r"^(\d+),\d+,wrong,(\d+)$", report_of(program, store, 101), re.M)[2]
+    return put(folder, "answers.store", store), f"{first} from bit {bit}", f"{sum(lost)} lost, most of them of APID 101 ({lost[1]})"
 
 
 def kept_of(program, folder):
@@ -59,10 +72,12 @@ def files(program, folder):
     draw = random.Random(SEED)
     names = [f"f{number}" for number in range(FIELDS)]
     fields = "".join(f"field,{8 * place},8,u,{name}\n" for place, name in enumerate(names)) + "".join(f"limit,{name},0,252\n" for name in names[::3])
-    million, told = million_of(program, folder)
+    million = store_of(program, MILLION)
+    arrived, written = report_of(program, million).split("\nend,")[1].split(",")[:2]
     header = bytes([0, 5, 0xC0, 0, 0xFF, 0xFF])
     return {
-        "million": million, "million_told": told, "small": put(folder, "small.store", sample("hk.store")),
+        "million": put(folder, "million.store", million), "million_told": (int(arrived), int(written)), "answers": answers_of(program, folder), "small": put(folder, "small.store", sample("hk.store")),
+        "lossy": put(folder, "lossy.store", store_of(program, 11 * STRETCHES)),
         "forty": put(folder, "forty.rec", draw.randbytes(FIELDS * PACKETS)), "forty_fields": put(folder, "forty.csv", fields.encode()),
         "rows": put(folder, "rows.csv", "".join(f"{100 * t},{100 * t + 50},7,p\n" for t in range(10_000)).encode()),
         "zeros": sparse(folder, "zeros.store", b""), "random": sparse(folder, "random.store", draw.randbytes(1 << 23)),

@@ -1,12 +1,13 @@
 """How the page looks at several sizes of a window, and what it is for those who don't see it. Each case gives its fault, or None."""
 
 import os
+import pathlib
 
 from browser_ways import begin, click, give, text
 
 VIEWS = ["forecast", "store", "streams", "fields"]
 SIZES = [(320, 640), (390, 844), (800, 900), (1280, 800), (1920, 1080)]
-LIGHTS = ["light", "dark"]
+LIGHTS, LEAST_PICTURE = ["dark", "light"], 40_000
 WRONG = {"plan": "x", "store-bits": "x", "fields": "x", "units": "x"}
 EXAMPLES = {"store": "store-example", "fields": "fields-example"}
 # What is wider than the window, or nothing.
@@ -39,6 +40,20 @@ FAINT = """(() => {
 DROPS = """(() => { const drag = files => { const data = new DataTransfer(); if (files) data.items.add(new File(['x'], 'x')); else data.setData('text/plain', 'x');
     const event = new DragEvent('dragover', {bubbles: true, cancelable: true, dataTransfer: data}); document.getElementById('plan').dispatchEvent(event); return event.defaultPrevented; };
     return [drag(false), drag(true)]; })()"""
+
+
+def tell_picture(browser, page, _):
+    """The pictures in light and dark show something, each something else."""
+    seen = []
+    for light in LIGHTS:
+        browser.light(light)
+        browser.size(1280, 800)
+        begin(browser, page, "forecast")
+        browser.wait("document.getElementById('rows-told').textContent.startsWith('These')", 60)
+        seen.append(browser.picture())
+        pathlib.Path(os.path.dirname(page), "out", f"{browser.name}-{light}.png").write_bytes(seen[-1])
+    sizes = [len(png) for png in seen]
+    return f"the pictures have {sizes} bytes" if min(sizes) < LEAST_PICTURE or seen[0] == seen[1] else None
 
 
 def with_examples(browser, page):
@@ -88,18 +103,18 @@ def tell_sizes(browser, page, _):
 
 def tell_names(browser, page, _):
     """Buttons have names of their own, labelled parts have roles, texts have contrast, and a text can be dragged within a field."""
-    browser.size(1280, 800)
-    with_examples(browser, page)
-    fault = unnamed_or_faint(browser)
-    if fault:
-        return fault
-    for field, wrong in WRONG.items():
-        give(browser, field, wrong)
-    if not browser.wait(f"document.querySelectorAll('.refusal:not([hidden])').length >= {len(WRONG)}", 30):
-        return "what is wrong is not refused"
-    fault = unnamed_or_faint(browser)
-    if fault:
-        return f"with refusals, {fault}"
+    for light in LIGHTS:
+        browser.light(light)
+        browser.size(1280, 800)
+        with_examples(browser, page)
+        fault = unnamed_or_faint(browser)
+        for field, wrong in WRONG.items():
+            give(browser, field, wrong)
+        if not browser.wait(f"document.querySelectorAll('.refusal:not([hidden])').length >= {len(WRONG)}", 30):
+            return "what is wrong is not refused"
+        fault = fault or unnamed_or_faint(browser)
+        if fault:
+            return f"{light}: {fault}"
     if browser.value(NO_ROLE):
         return f"{browser.value(NO_ROLE)} have a label and no role"
     found = browser.value(DROPS)
@@ -126,20 +141,24 @@ def tell_media(browser, page, _):
     return None if tabs[1] not in (tabs[0], tabs[2]) and len(set(signs)) == len(signs) else f"in forced colours the tabs are {tabs}, and the signs {signs}"
 
 
-# What each task asks for: the view, where its answer stands, and how it begins.
-ANSWERS = [("forecast", "forecast-sure", "Sure: 0 to 9, 11 to 49"), ("forecast", "rows-told", "These 3 rows make all sure"), ("store", "store-wrong", "Wrong: 159 from bit 75"),
-           ("streams", "streams-sum", "166 packets of 1 APID"), ("fields", "fields-stretches", "Out of limits in")]
+# What some tasks ask for, of the examples: the view, where the answer stands, and what it has.
+ANSWERS = [("forecast", "forecast-sure", "Sure: 0 to 9, 11 to 49"), ("forecast", "rows-told", "These 3 rows make all sure"), ("fields", "fields-stretches", "battery_mV44553320, above 3300")]
 
 
-def tell_answers(browser, page, _):
+def tell_answers(browser, page, files):
     """What a task asks for stands in sight, without scrolling, at 1280 by 800."""
     browser.size(1280, 800)
     with_examples(browser, page)
+    store, wrong, lost = files["answers"]
     click(browser, "tab-store")
-    browser.value("document.getElementById('to-streams').click()")
-    for view, part, words in ANSWERS:
+    for name, value in (("bits", "64"), ("apid", "101")):
+        give(browser, f"store-{name}", value)
+    browser.choose("store-file", store)
+    browser.wait("document.getElementById('store-name').textContent.startsWith('answers')", 30)
+    click(browser, "to-streams")
+    for view, part, words in [*ANSWERS, ("store", "store-wrong", wrong), ("streams", "streams-sum", lost)]:
         click(browser, f"tab-{view}")
-        if not browser.wait(f"document.getElementById('{part}').textContent.startsWith({words!r})", 30):
+        if not browser.wait(f"document.getElementById('{part}').textContent.includes({words!r})", 30):
             return f"{part} says {text(browser, part)!r}"
         top, bottom = browser.value(f"(box => [box.top, box.bottom])(document.getElementById('{part}').getBoundingClientRect())")
         if browser.value("scrollY") or top < 0 or bottom > 800:
@@ -148,18 +167,16 @@ def tell_answers(browser, page, _):
 
 
 def unnamed_or_faint(browser):
-    """Which buttons have one name, or which texts are faint, in any view and light; or None."""
-    for light in LIGHTS:
-        browser.light(light)
-        for view in VIEWS:
-            click(browser, f"tab-{view}")
-            browser.wait("document.querySelectorAll('.old').length === 0", 30)
-            names = browser.value(NAMES)
-            twice = sorted({name for name in names if names.count(name) > 1 or not name})
-            if twice:
-                return f"{view} has buttons of one name: {twice}"
-            if browser.value(FAINT):
-                return f"{view}, {light}: {browser.value(FAINT)} are faint"
+    """Which buttons have one name, or which texts are faint, in any view; or None."""
+    for view in VIEWS:
+        click(browser, f"tab-{view}")
+        browser.wait("document.querySelectorAll('.old').length === 0", 30)
+        names = browser.value(NAMES)
+        twice = sorted({name for name in names if names.count(name) > 1 or not name})
+        if twice:
+            return f"{view} has buttons of one name: {twice}"
+        if browser.value(FAINT):
+            return f"{view}: {browser.value(FAINT)} are faint"
     return None
 
 
@@ -188,9 +205,8 @@ def tell_saved(browser, page, files):
             if os.path.exists(path) and os.path.getsize(path) >= len(wanted):
                 break
             browser.frame()
-        with open(path, "rb") as file:
-            if file.read() != wanted:
-                return f"{name} is another one"
+        if pathlib.Path(path).read_bytes() != wanted:
+            return f"{name} is another one"
     return None
 
 
@@ -199,6 +215,5 @@ def tell_policy(browser, page, _):
     begin(browser, page, "forecast")
     refused = browser.value("(() => { try { document.createElement('div').innerHTML = '<b>x</b>'; return ''; } catch (fault) { return fault.name; } })()")
     worker = browser.value("(() => { try { new Worker('data:text/javascript,1'); return ''; } catch (fault) { return fault.name; } })()")
-    with open(page, encoding="utf-8") as file:
-        has_tests = "test_ten_packets" in file.read()
+    has_tests = "the words of ten packets" in pathlib.Path(page).read_text("utf-8")
     return None if (refused, worker, has_tests) == ("TypeError", "TypeError", False) else f"a text as HTML: {refused!r}, another worker: {worker!r}, tests: {has_tests}"

@@ -2,6 +2,8 @@
 WebKitGTK by their drivers over HTTP, Firefox, whose driver Debian has not, by the same commands at the port that its driver would use."""
 
 import base64
+import contextlib
+import glob
 import http.client
 import json
 import os
@@ -23,9 +25,21 @@ KEYS = {"Enter": "\ue006", "Shift": "\ue008", "Control": "\ue009", "Escape": "\u
         "ArrowLeft": "\ue012", "ArrowUp": "\ue013", "ArrowRight": "\ue014", "ArrowDown": "\ue015"}
 SCRIPT = """const done = arguments[arguments.length - 1];
 (async () => (%s))().then((value) => done({value}), (fault) => done({fault: String(fault?.stack ?? fault)}));"""
-PREFS = {"marionette.port": 0, "browser.download.folderList": 2, "browser.download.dir": "", "browser.download.alwaysOpenPanel": False, "network.proxy.type": 0, "datareporting.policy.dataSubmissionEnabled": False}
+PREFS = {"browser.download.folderList": 2, "browser.download.alwaysOpenPanel": False, "network.proxy.type": 0, "datareporting.policy.dataSubmissionEnabled": False}
+MINI_BROWSER = "/usr/lib/*/webkit2gtk-4.*/MiniBrowser"
 LIGHT = "layout.css.prefers-color-scheme.content-override"
 LIMIT = 600  # seconds for one command
+
+
+def until(holds, limit=60):
+    """Waits so many seconds until something holds, and gives it; or None."""
+    end = time.monotonic() + limit
+    while time.monotonic() < end:
+        found = holds()
+        if found:
+            return found
+        time.sleep(0.1)
+    return None
 
 
 class Browser:
@@ -33,10 +47,16 @@ class Browser:
 
     def __init__(self, name):
         self.name, self.folder, self.processes = name, tempfile.mkdtemp(prefix=f"pocket-{name}-"), []
-        self.session, self.number, self.port, self.socket = "", 0, 0, None
+        self.session, self.number, self.socket = "", 0, None
         self.saved = None if name == "webkit" else os.path.join(self.folder, "saved")
+        with socket.socket() as free:
+            free.bind(("127.0.0.1", 0))
+            self.port = free.getsockname()[1]
         try:
-            self.start()
+            wanted = {"chromium": self.start_chromium, "firefox": self.start_firefox, "webkit": self.start_webkit}[name]()
+            if not until(self.is_open):
+                raise RuntimeError("its driver does not begin")
+            self.begin(wanted)
         except BaseException:
             self.close()
             raise
@@ -45,23 +65,6 @@ class Browser:
         """Starts a process that ends with the browser."""
         self.processes.append(subprocess.Popen(words, stdin=subprocess.DEVNULL, stderr=subprocess.DEVNULL, **{"stdout": subprocess.DEVNULL, **more}))
         return self.processes[-1]
-
-    def start(self):
-        """Starts the browser with its driver."""
-        if self.name == "firefox":
-            self.start_firefox()
-            wanted = {}
-        else:
-            with socket.socket() as free:
-                free.bind(("127.0.0.1", 0))
-                self.port = free.getsockname()[1]
-            wanted = self.start_webkit() if self.name == "webkit" else self.start_chromium()
-        self.until(self.is_open, "its driver does not begin")
-        self.session = self.ask("NewSession", capabilities={"alwaysMatch": wanted})["sessionId"]
-        self.ask("SetTimeouts", script=LIMIT * 1000, pageLoad=LIMIT * 1000)
-        if self.name == "chromium":
-            self.ask("Log", type="performance")  # (what was traced of its beginning fills the room)
-        self.size(1280, 1600)
 
     def start_chromium(self):
         self.run("chromedriver", f"--port={self.port}")
@@ -78,31 +81,35 @@ class Browser:
     def start_firefox(self):
         os.makedirs(f"{self.folder}/profile")
         with open(f"{self.folder}/profile/user.js", "w", encoding="utf-8") as file:
-            file.writelines(f"user_pref({json.dumps(name)}, {json.dumps(value)});\n" for name, value in {**PREFS, "browser.download.dir": self.saved}.items())
+            file.writelines(f"user_pref({json.dumps(name)}, {json.dumps(value)});\n" for name, value in {**PREFS, "browser.download.dir": self.saved, "marionette.port": self.port}.items())
         self.run("firefox-esr", "--headless", "--marionette", "--remote-allow-system-access", "--no-remote", "--profile", f"{self.folder}/profile", env={**os.environ, "HOME": self.folder})
+        return {}
 
     def is_open(self):
         """Whether the driver answers."""
         try:
-            if self.name == "firefox":
-                with open(f"{self.folder}/profile/MarionetteActivePort", encoding="ascii") as file:
-                    self.port = int(file.read())
-                self.socket = socket.create_connection(("127.0.0.1", self.port), LIMIT)
-                return self.heard()
-            socket.create_connection(("127.0.0.1", self.port), 1).close()
-            return True
-        except (OSError, ValueError):
+            link = socket.create_connection(("127.0.0.1", self.port), LIMIT)
+        except OSError:
             return False
+        if self.name != "firefox":
+            link.close()
+            return True
+        self.socket, self.stream = link, link.makefile("rb")
+        return self.heard()
 
-    def until(self, holds, fault, limit=60):
-        """Waits until something holds, and gives it."""
-        end = time.monotonic() + limit
-        while time.monotonic() < end:
-            found = holds()
-            if found:
-                return found
-            time.sleep(0.1)
-        raise RuntimeError(fault)
+    def begin(self, wanted):
+        """Begins a session."""
+        self.session = self.ask("NewSession", capabilities={"alwaysMatch": wanted})["sessionId"]
+        self.ask("SetTimeouts", script=LIMIT * 1000, pageLoad=LIMIT * 1000)
+        if self.name == "chromium":
+            self.ask("Log", type="performance")  # (what was traced of its beginning fills the room)
+        self.size(1280, 1600)
+
+    def end(self):
+        """Ends the session."""
+        if self.session:
+            self.ask("DeleteSession")
+        self.session = ""
 
     def ask(self, command, **given):
         """What the browser answers to a command."""
@@ -132,11 +139,8 @@ class Browser:
         """The next message of Firefox: its length, a colon, and its bytes."""
         size = b""
         while not size.endswith(b":"):
-            size += self.socket.recv(1) or b":"
-        found = b""
-        while len(found) < int(size[:-1]):
-            found += self.socket.recv(int(size[:-1]) - len(found))
-        return json.loads(found)
+            size += self.stream.read(1) or b":"
+        return json.loads(self.stream.read(int(size[:-1])))
 
     def value(self, expression):
         """The value of an expression in the page."""
@@ -147,12 +151,7 @@ class Browser:
 
     def wait(self, expression, limit):
         """Waits until an expression is true in the page, and gives its value; or None."""
-        try:
-            return self.until(lambda: self.value(expression), "", limit)
-        except RuntimeError as fault:
-            if str(fault):
-                raise
-            return None
+        return until(lambda: self.value(expression), limit)
 
     def open(self, address):
         """Opens an address, anew even if only what follows its # differs."""
@@ -202,15 +201,16 @@ class Browser:
         self.frame()
 
     def light(self, name):
-        """Has the page in light or dark; gives whether the browser can be told so."""
+        """Has the page in light or dark. WebKitGTK takes that at the beginning: it begins anew, without a page."""
         if self.name == "chromium":
             self.media("", {"prefers-color-scheme": name})
         elif self.name == "firefox":
             self.ask("Marionette:SetContext", value="chrome")
             self.ask("ExecuteScript", script=f"Services.prefs.setIntPref('{LIGHT}', {int(name == 'light')})", args=[])
             self.ask("Marionette:SetContext", value="content")
-        self.frame()
-        return self.name != "webkit"
+        else:
+            self.end()
+            self.begin({"webkitgtk:browserOptions": {"binary": glob.glob(MINI_BROWSER)[0], "args": ["--automation", *(["--dark-mode"] if name == "dark" else [])]}})
 
     def media(self, kind, features):
         """Has Chromium draw for another medium, print or none, with these features."""
@@ -240,7 +240,8 @@ class Browser:
             pages.update((it["pid"], it["tid"]) for it in events if it["ph"] == "M" and it["args"].get("name") == "CrRendererMain")
             return any(it["ts"] > spans[-1][1] for it in events if (it["pid"], it["tid"]) in pages)
 
-        self.until(are_told, "the browser does not tell its tasks")
+        if not until(are_told):
+            raise RuntimeError("the browser does not tell its tasks")
         found = [it for it in events if it["name"] == "ThreadControllerImpl::RunTask" and it["ph"] == "X" and (it["pid"], it["tid"]) in pages]
         return [[it.get("tdur", 0) / 1000 for it in sorted(found, key=lambda it: it["ts"]) if begin <= it["ts"] <= end] for begin, end in spans]
 
@@ -253,11 +254,8 @@ class Browser:
         return self.value(f"(box => ({{x: box.x + box.width / 2, y: box.y + box.height / 2}}))(document.getElementById('{part}').getBoundingClientRect())")
 
     def close(self):
-        try:
-            if self.session:
-                self.ask("DeleteSession")
-        except (OSError, RuntimeError, ValueError):
-            pass
+        with contextlib.suppress(OSError, RuntimeError, ValueError):
+            self.end()
         if self.socket:
             self.socket.close()
         for process in reversed(self.processes):

@@ -1,7 +1,7 @@
 // What a forecast says of a packet, in words.
 
 import { records_of } from './records.js';
-import { GONE, OPEN, SURE } from './runs.js';
+import { GONE, SURE } from './runs.js';
 import { grouped, range_words } from './text.js';
 
 // The packet at which an open packet's trouble begins: the first one after the latest sure packet that arrives and is not sure.
@@ -26,13 +26,6 @@ export function sure_words(runs) {
   return ranges.length ? `sure: ${ranges.slice(0, MOST_RANGES).join(', ')}${ranges.length > MOST_RANGES ? ', ..' : ''}` : 'none is sure';
 }
 
-export function first_open(runs) {
-  for (let place = 0; place < runs.size; place += 1) {
-    if (runs.kind[place] === OPEN) return runs.first[place];
-  }
-  return -1;
-}
-
 // The row of a script that drops a packet, and its number: the last row that names it decides. Null if none does.
 function dropping_row(script, at) {
   const rows = records_of(script);
@@ -44,7 +37,6 @@ function dropping_row(script, at) {
   return null;
 }
 
-// A packet of a forecast in words.
 export function forecast_words(runs, script, at) {
   const name = `packet ${grouped(at)}`, kind = runs.kind_at(at);
   if (kind === SURE) return `${name} is sure: it is restored, whatever values are sent`;

@@ -25,18 +25,11 @@ function find_records(text) {
   return records;
 }
 
-// The fields of the records of a text that has no quotes.
-export function fields_of(text) {
-  return records_of(text).map((record) => record.text.split(','));
-}
+export const fields_of = (text) => records_of(text).map((record) => record.text.split(','));
 
-// The APIDs of a text of streams, each with its bits.
-export function stream_rows(text) {
-  return fields_of(text).map((cells) => cells.map((cell) => cell.replace(/^"(.*)"$/, '$1')));
-}
+export const stream_rows = (text) => fields_of(text).map((cells) => cells.map((cell) => cell.replace(/^"(.*)"$/, '$1')));
 
-// A text with more rows at its end.
 export function with_rows(text, rows) {
-  const gap = text && !/[\r\n]$/.test(text) ? '\n' : '';
+  const gap = rows.length && text && !/[\r\n]$/.test(text) ? '\n' : '';
   return text + gap + rows.map((row) => `${row}\n`).join('');
 }

@@ -45,7 +45,6 @@ export class Report {
     runs.end = [arrived, written, repeats];
   }
 
-  // What is told of the rows, without the runs.
   told() {
     const { rows, counts, late } = this;
     return { rows, counts, late, end: this.runs.end, stretches: counts.reduce((sum, count) => sum + count.stretches, 0) };

@@ -20,7 +20,6 @@ export const FINDINGS = [
 export const [WRITTEN, LOST, GAP, UNSYNCED, EARLY, WRONG] = [0, 1, 2, 3, 4, 5];
 export const [SURE, OPEN, GONE] = [0, 1, 2];
 export const NO_LEVEL = 255;
-const HALF_KNOWN = 1; // of a written packet the content alone is known, of another one the mask alone
 const BLOCK = 64; // so many runs have one sum of what is before them
 
 export class Runs {
@@ -34,7 +33,7 @@ export class Runs {
     this.kind = new Uint8Array(256);
     this.level = new Uint8Array(256);
     this.value = new Uint32Array(256); // the first wrong bit, the bits of data that end too early, or a level
-    this.half = new Uint8Array(256);
+    this.half = new Uint8Array(256); // 1 if of a written packet the content alone is known, of another one the mask alone
     this.repeats = new Uint32Array(256);
     this.sums = new Float64Array(256 * kinds.length); // how many packets of each kind are before every block of runs
     this.totals = kinds.map(() => 0);
@@ -89,6 +88,12 @@ export class Runs {
     return this.kind[this.place_of(number)];
   }
 
+  // The first packet of a kind, or -1.
+  first_of(kind) {
+    const place = this.kind.subarray(0, this.size).indexOf(kind);
+    return place < 0 ? -1 : this.first[place];
+  }
+
   // How many packets of each kind have a lesser number; it may be a fraction.
   before(number) {
     const kinds = this.kinds.length, place = this.place_of(number), block = Math.floor(place / BLOCK);
@@ -105,10 +110,6 @@ export class Runs {
     }
     return -1;
   }
-
-  bytes() {
-    return this.first.length * (8 + 8 + 4 + 1 + 1 + 4 + 1 + 4) + 8 * this.sums.length;
-  }
 }
 
 // The runs of a forecast, and what its last two lines say.
@@ -116,11 +117,10 @@ export function read_forecast(bytes) {
   const runs = new Runs(STATES), reader = new Reader(bytes);
   reader.next_line();
   while (reader.is_digit()) {
-    const line = reader.at, first = reader.number();
+    const first = reader.number();
     reader.at += 1;
-    const last = reader.number();
-    const letter = bytes[reader.at + 1];
-    runs.add(first, last, letter === 115 ? SURE : letter === 111 ? OPEN : GONE, line);
+    const last = reader.number(), letter = bytes[reader.at + 1];
+    runs.add(first, last, letter === 115 ? SURE : letter === 111 ? OPEN : GONE);
     reader.next_line();
   }
   runs.gaps = reader.line().split(',').slice(1);
@@ -153,7 +153,7 @@ function read_arrival(reader, runs, number, line) {
   reader.at = kind === UNSYNCED ? reader.at + 8 : bytes.indexOf(32, reader.at) + 1;
   runs.value[place] = kind === UNSYNCED ? 0 : reader.number();
   if (kind === WRITTEN || kind === GAP) runs.level[place] = runs.value[place];
-  if (is_half_known(bytes, reader, kind)) runs.half[place] = HALF_KNOWN;
+  runs.half[place] = Number(is_half_known(bytes, reader, kind));
 }
 
 // The runs of a listing: a run for each arrival and for each range of lost packets.
@@ -172,6 +172,6 @@ export function read_listing(bytes) {
     }
     reader.next_line();
   }
-  if (!reader.is_done()) runs.end = reader.line().split(' ').slice(1).map(Number);
+  if (reader.at < bytes.length) runs.end = reader.line().split(' ').slice(1).map(Number);
   return runs;
 }

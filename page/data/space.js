@@ -1,18 +1,12 @@
 // The Space Packets of a store: where each begins. What is no store is told by the program alone.
 
 // The bytes of the Space Packet that begins here, with its header.
-export function packet_length(store, at) {
-  return 7 + store[at + 4] * 256 + store[at + 5];
-}
+export const packet_length = (store, at) => 7 + store[at + 4] * 256 + store[at + 5];
 
-export function apid_at(store, at) {
-  return ((store[at] & 7) << 8) | store[at + 1];
-}
+export const apid_at = (store, at) => ((store[at] & 7) << 8) | store[at + 1];
 
 // Whether a header is of telemetry that is not segmented and has no secondary header.
-function has_shape(store, at) {
-  return (store[at] & 0x18) === 0 && (store[at + 2] & 0xc0) === 0xc0;
-}
+const has_shape = (store, at) => (store[at] & 0x18) === 0 && (store[at + 2] & 0xc0) === 0xc0;
 
 const HEADER = 6, MOST_ALIKE = 1000;
 
@@ -24,7 +18,6 @@ export class Walk {
     Object.assign(this, { bytes, at: 0, apids: new Map(), alike: 0, is_none: false });
   }
 
-  // Whether it stopped at headers that are all alike.
   is_alike() {
     return this.alike > MOST_ALIKE;
   }
@@ -42,7 +35,6 @@ export class Walk {
     return !has_shape(this.bytes, at);
   }
 
-  // So many bytes are there now.
   read(count) {
     const { bytes, apids } = this;
     while (!this.is_none && this.at + 7 <= count) {
@@ -56,7 +48,6 @@ export class Walk {
   }
 }
 
-// Where the packets of an APID begin, in order.
 export function arrivals_of(store, apid) {
   const places = [];
   for (let at = 0; at + 7 <= store.length; at += packet_length(store, at)) {

@@ -17,26 +17,16 @@ export function read_table(bytes) {
     reader.number();
     for (const field of fields) {
       reader.at += 1;
-      field.values[t] = reader.signed();
+      const value = field.values[t] = reader.signed();
+      if (value < field.low || t === 0) field.low = value;
+      if (value > field.high || t === 0) field.high = value;
     }
     reader.at += 1;
   }
-  for (const field of fields) [field.low, field.high] = ends_of(field.values);
   return { bytes, count, fields, line };
 }
 
-function new_field(name, count) {
-  return { name, values: new Float64Array(count), out: new Uint8Array(count), outside: 0, limit: null, low: 0, high: 0 };
-}
-
-function ends_of(values) {
-  let low = Infinity, high = -Infinity;
-  for (const value of values) {
-    if (value < low) low = value;
-    if (value > high) high = value;
-  }
-  return values.length ? [low, high] : [0, 0];
-}
+const new_field = (name, count) => ({ name, values: new Float64Array(count), out: new Uint8Array(count), outside: 0, limit: null, low: 0, high: 0 });
 
 // Whether a name stands in the bytes at this place, before a comma.
 function is_name_at(bytes, at, name) {
@@ -114,7 +104,6 @@ export class Places {
     return this.runs.kind_at(number) === WRITTEN ? this.written_before(number) : -1;
   }
 
-  // The number of the packet at a place.
   number_of(place) {
     let low = 0, high = this.runs.size - 1;
     while (low < high) {

@@ -1,35 +1,16 @@
 // Texts, bytes and numbers, as the page and its worker use them.
 
-const to_bytes = new TextEncoder();
-const to_text = new TextDecoder();
+const to_bytes = new TextEncoder(), to_text = new TextDecoder();
 
-export function bytes_of(text) {
-  return to_bytes.encode(text);
-}
-
-export function text_of(bytes) {
-  return to_text.decode(bytes);
-}
+export const bytes_of = (text) => to_bytes.encode(text);
+export const text_of = (bytes) => to_text.decode(bytes);
 
 // A number with a comma between thousands.
-export function grouped(number) {
-  return String(number).replace(/\B(?=(\d{3})+$)/g, ',');
-}
+export const grouped = (number) => String(number).replace(/\B(?=(\d{3})+$)/g, ',');
+export const range_words = (first, last) => first === last ? `packet ${grouped(first)}` : `packets ${grouped(first)} to ${grouped(last)}`;
+export const counted = (count, one, many) => `${grouped(count)} ${count === 1 ? one : many}`;
+export const sentence = (text) => `${text[0].toUpperCase()}${text.slice(1)}.`;
 
-export function range_words(first, last) {
-  return first === last ? `packet ${grouped(first)}` : `packets ${grouped(first)} to ${grouped(last)}`;
-}
-
-export function counted(count, one, many) {
-  return `${grouped(count)} ${count === 1 ? one : many}`;
-}
-
-// A text that begins a sentence.
-export function sentence(text) {
-  return `${text[0].toUpperCase()}${text.slice(1)}.`;
-}
-
-// Reads numbers and words in the bytes of a text.
 export class Reader {
   constructor(bytes, at = 0) {
     this.bytes = bytes;
@@ -54,7 +35,6 @@ export class Reader {
     return -this.number();
   }
 
-  // Goes to the line after this one.
   next_line() {
     this.at = this.end_of_line() + 1;
   }
@@ -71,13 +51,8 @@ export class Reader {
     this.at = end + 1;
     return text;
   }
-
-  is_done() {
-    return this.at >= this.bytes.length;
-  }
 }
 
-// A list of the same kind with more room.
 export function with_room(list, room) {
   const more = new list.constructor(room);
   more.set(list);

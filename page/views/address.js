@@ -5,21 +5,11 @@ import { EXAMPLE } from '../data/example.js';
 
 const MOST_LETTERS = 30000; // longer texts are in no link
 
-export function address_of(asked) {
-  return '#' + ['packets', 'robust', 'plan', 'script'].map((name) => `${name}=${encodeURIComponent(asked[name]).replace(/%2C/g, ',')}`).join('&');
-}
+export const address_of = ({ packets, robust, plan, script }) => `#${String(new URLSearchParams({ packets, robust, plan, script })).replace(/%2C/g, ',')}`;
 
 // The forecast's texts out of an address, or null if it has none.
 export function remembered(address) {
-  const found = {};
-  for (const text of address.slice(1).split('&')) {
-    const [name, value] = [text.slice(0, text.indexOf('=')), text.slice(text.indexOf('=') + 1)];
-    try {
-      if (name in EXAMPLE) found[name] = decodeURIComponent(value);
-    } catch (_) {
-      return null;
-    }
-  }
+  const found = Object.fromEntries([...new URLSearchParams(address.slice(1))].filter(([name]) => name in EXAMPLE));
   return Object.keys(found).length ? { packets: '1000', robust: '2', plan: '', script: '', ...found } : null;
 }
 

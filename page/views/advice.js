@@ -9,8 +9,12 @@ export class Advice {
   constructor(take, add) {
     Object.assign(this, { add, asked: null, shown: null, total: 0, desk: new Desk() });
     this.asking = new Later(() => this.ask(), 250);
-    this.rows = Array.from({ length: 8 }, (_, robust) => new RobustRow(robust, () => take(this.shown, robust)));
-    fill(part('robust-rows'), ...this.rows.map((row) => row.box));
+    // (what one robust gives has a button that takes it, which stays where it is as long as the page does)
+    this.rows = Array.from({ length: 8 }, (_, robust) => {
+      const own = button('Take', () => take(this.shown, robust), { 'aria-label': `Take robust ${robust}` }), bar = element('span', { class: 'bar' }, element('span', { class: 'filled' }));
+      return element('tr', {}, element('th', { scope: 'row' }, String(robust)), element('td', {}, bar), element('td', { class: 'number' }), element('td', { class: 'number' }), element('td', {}, own));
+    });
+    fill(part('robust-rows'), ...this.rows);
   }
 
   // Asks for advice on a forecast of so many packets, after a moment.
@@ -44,50 +48,25 @@ export class Advice {
   }
 
   tell_robust(row, tried) {
+    const box = this.rows[row.robust], [, share, sure, open, take] = box.children, is_own = String(row.robust) === this.asked.robust;
     tried.push(row);
-    this.rows[row.robust].show(row, this.total, String(row.robust) === this.asked.robust);
+    share.querySelector('.filled').style.width = `${(100 * row.sure) / this.total}%`;
+    fill(sure, grouped(row.sure));
+    fill(open, row.open ? grouped(row.open) : 'none');
+    fill(take.firstChild, is_own ? 'taken' : 'Take');
+    box.className = is_own ? 'own' : '';
     if (tried.length < 8) return;
     const least = tried.find((one) => one.open === 0);
     fill(part('robust-told'), least ? `Robust ${least.robust} is the least that makes all sure that arrive.` : 'No robust from 0 to 7 makes all sure that arrive.');
   }
 
   tell_rows({ rows, open }, is_done) {
-    const box = part('rows-told');
-    if (rows.length === 0 && is_done) {
-      refill(box);
-      return;
-    }
-    if (!is_done) {
-      if (rows.length) refill(box, `${counted(rows.length, 'row', 'rows')} tried, ${counted(open, 'packet', 'packets')} still open ..`);
-      return;
-    }
-    const { shown } = this, these = rows.length === 1 ? 'This row makes' : `These ${rows.length} rows make`;
+    const { shown } = this, box = part('rows-told'), these = rows.length === 1 ? 'This row makes' : `These ${rows.length} rows make`;
     const front = open ? `After these ${rows.length} rows of whole content ${counted(open, 'packet is', 'packets are')} still open: ` : `${these} all sure, too: `;
-    refill(box, front, element('code', { class: 'list', title: rows.join('\n') }, rows.join('\n')), ' ', adding(rows, () => this.add(shown, rows)));
+    const told = [front, element('code', { class: 'list', title: rows.join('\n') }, rows.join('\n')), ' ', adding(rows, () => this.add(shown, rows))];
+    if (is_done) refill(box, ...(rows.length ? told : []));
+    else if (rows.length) refill(box, `${counted(rows.length, 'row', 'rows')} tried, ${counted(open, 'packet', 'packets')} still open ..`);
   }
 }
 
-// A button that adds rows to the schedule.
-export function adding(rows, add) {
-  return button(rows.length === 1 ? `Add ${rows[0]}` : `Add ${rows.length} rows`, add, { title: rows.join('\n') });
-}
-
-// What one robust gives, with a button that takes it; the button stays where it is as long as the page does.
-class RobustRow {
-  constructor(robust, take) {
-    this.bar = element('span', { class: 'filled' });
-    this.sure = element('td', { class: 'number' });
-    this.open = element('td', { class: 'number' });
-    this.take = button('Take', take, { 'aria-label': `Take robust ${robust}` });
-    this.box = element('tr', {}, element('th', { scope: 'row' }, String(robust)), element('td', {}, element('span', { class: 'bar' }, this.bar)),
-      this.sure, this.open, element('td', {}, this.take));
-  }
-
-  show({ sure, open }, total, is_own) {
-    this.bar.style.width = `${(100 * sure) / total}%`;
-    fill(this.sure, grouped(sure));
-    fill(this.open, open ? grouped(open) : 'none');
-    fill(this.take, is_own ? 'taken' : 'Take');
-    this.box.className = is_own ? 'own' : '';
-  }
-}
+export const adding = (rows, add) => button(rows.length === 1 ? `Add ${rows[0]}` : `Add ${rows.length} rows`, add, { title: rows.join('\n') });

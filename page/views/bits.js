@@ -14,9 +14,7 @@ export function from_hex(text) {
   return bytes;
 }
 
-export function to_hex(bytes) {
-  return Array.from(bytes, (byte) => byte.toString(16).padStart(2, '0')).join(' ');
-}
+export const to_hex = (bytes) => Array.from(bytes, (byte) => byte.toString(16).padStart(2, '0')).join(' ');
 
 // Bytes as hexadecimal digits in pairs, of many the beginning and how many there are.
 export function hex_words(bytes) {
@@ -24,45 +22,25 @@ export function hex_words(bytes) {
   return bytes.length > MOST_BYTES ? `${shown} .. (${grouped(bytes.length)} bytes)` : shown;
 }
 
-function bit_at(bytes, place) {
-  return (bytes[place >> 3] >> (7 - (place & 7))) & 1;
-}
+const bit_at = (bytes, place) => (bytes[place >> 3] >> (7 - (place & 7))) & 1;
 
 // The places at which a vector has a one, in words.
 export function ones_words(bytes, most = 12) {
-  const places = [];
-  let count = 0;
-  for (let place = 0; place < 8 * bytes.length; place += 1) {
-    if (!bit_at(bytes, place)) continue;
-    if (count < most) places.push(place);
-    count += 1;
-  }
-  if (count === 0) return 'no place';
-  return `${counted(count, 'place', 'places')}: ${places.join(', ')}${count > most ? ' ..' : ''}`;
+  const places = Array.from({ length: 8 * bytes.length }, (_, place) => place).filter((place) => bit_at(bytes, place));
+  return places.length ? `${counted(places.length, 'place', 'places')}: ${places.slice(0, most).join(', ')}${places.length > most ? ' ..' : ''}` : 'no place';
 }
 
 // The bits of one row of bytes: bits of the same kind stand in one part. `kind_of` gives the class of a bit by its place.
 function bit_row(bytes, from, bits, kind_of) {
-  const row = document.createDocumentFragment(), hex = bytes.subarray(from, from + BYTES_A_ROW);
-  row.append(element('span', { class: 'place' }, String(8 * from).padStart(7) + '  '), to_hex(hex).padEnd(3 * BYTES_A_ROW + 1));
-  let text = '', kind = '';
-  const flush = () => {
-    if (text) row.append(kind ? element('span', { class: kind }, text) : text);
-    text = '';
-  };
+  const hex = bytes.subarray(from, from + BYTES_A_ROW), parts = [];
   for (let place = 8 * from; place < Math.min(bits, 8 * (from + hex.length)); place += 1) {
-    const now = kind_of(place);
-    if (now !== kind) flush();
-    kind = now;
-    text += bit_at(bytes, place);
-    if (place % 8 === 7) {
-      flush();
-      row.append(' ');
-    }
+    const kind = kind_of(place);
+    if (parts.at(-1)?.kind !== kind) parts.push({ kind, text: '' });
+    parts.at(-1).text += bit_at(bytes, place);
+    if (place % 8 === 7) parts.push({ kind: null, text: ' ' });
   }
-  flush();
-  row.append('\n');
-  return row;
+  const told = parts.map(({ kind, text }) => (kind ? element('span', { class: kind }, text) : text));
+  return [element('span', { class: 'place' }, `${String(8 * from).padStart(7)}  `), to_hex(hex).padEnd(3 * BYTES_A_ROW + 1), ...told, '\n'];
 }
 
 // Bytes with their bits, in rows of eight bytes; `after_row` gives what stands below the row of a byte. If there are many rows, a
@@ -72,9 +50,8 @@ export function bit_table(bytes, bits, kind_of, wanted = 0, after_row = () => ''
   const middle = Math.floor(wanted / 8 / BYTES_A_ROW), rows = Math.ceil(bytes.length / BYTES_A_ROW);
   const first = rows > ROWS_AT_ONCE ? Math.max(0, middle - ROWS_AT_ONCE / 2) : 0;
   const draw = (from, to) => {
-    const made = [];
-    for (let row = from; row < to; row += 1) made.push(bit_row(bytes, row * BYTES_A_ROW, bits, kind_of), after_row(row * BYTES_A_ROW));
-    fill(box, element('span', { class: 'place' }, '    bit  bytes                    bits\n'), ...made);
+    const starts = Array.from({ length: to - from }, (_, row) => (from + row) * BYTES_A_ROW);
+    fill(box, element('span', { class: 'place' }, '    bit  bytes                    bits\n'), ...starts.flatMap((start) => [...bit_row(bytes, start, bits, kind_of), after_row(start)]));
   };
   const last = Math.min(rows, first + ROWS_AT_ONCE);
   draw(first, last);
@@ -86,12 +63,7 @@ export function bit_table(bytes, bits, kind_of, wanted = 0, after_row = () => ''
 
 // The content of a written packet: the bits that its mask has, and those that changed lately, are told apart.
 export function content_table(content, mask, changes, bits) {
-  return bit_table(content, bits, (place) => {
-    const classes = [];
-    if (mask && bit_at(mask, place)) classes.push('mask');
-    if (bit_at(changes, place)) classes.push('change');
-    return classes.join(' ');
-  });
+  return bit_table(content, bits, (place) => `${mask && bit_at(mask, place) ? 'mask' : ''} ${bit_at(changes, place) ? 'change' : ''}`.trim());
 }
 
 // The data of a packet that has a first wrong bit: it is marked, with an arrow below, and what follows is faint.

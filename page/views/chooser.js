@@ -7,7 +7,6 @@ const AT_FIRST = 8; // fields, if none is chosen yet
 const MOST_LISTED = 300;
 
 export class Chooser {
-  // `changed` is called when other fields are chosen.
   constructor(changed) {
     Object.assign(this, { changed, fields: [], chosen: new Set() });
     part('fields-search').addEventListener('input', () => this.list());
@@ -48,13 +47,11 @@ export class Chooser {
   }
 
   row(field) {
-    const box = element('input', { type: 'checkbox' }), out = field.outside ? [element('span', { class: 'out' }, ` ${grouped(field.outside)} out`)] : [];
-    box.checked = this.chosen.has(field.name);
-    box.addEventListener('change', () => {
-      if (box.checked) this.chosen.add(field.name);
-      else this.chosen.delete(field.name);
+    const out = field.outside ? [element('span', { class: 'out' }, ` ${grouped(field.outside)} out`)] : [], change = ({ target }) => {
+      this.chosen[target.checked ? 'add' : 'delete'](field.name);
       this.changed();
-    });
+    };
+    const box = Object.assign(element('input', { type: 'checkbox', on_change: change }), { checked: this.chosen.has(field.name) });
     return element('li', {}, element('label', {}, box, ` ${field.name}`, ...out));
   }
 }

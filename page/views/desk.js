@@ -50,7 +50,7 @@ export class Desk {
     if (wanted) this.read(this.asked, wanted);
     else if (told !== undefined) this.asked.told(told);
     else if (fault !== undefined) this.fail(fault);
-    else this.settle((asked) => asked.answer(answer));
+    else this.settle('answer', answer);
     if (is_large) this.end();
   }
 
@@ -65,50 +65,26 @@ export class Desk {
     if (number === this.asked?.number) this.worker.postMessage(answer, answer.piece ? [answer.piece] : []);
   }
 
-  settle(tell) {
+  settle(how, value) {
     const { asked } = this;
     this.asked = null;
-    if (asked) tell(asked);
+    asked?.[how](value);
   }
 
   // The worker of a fault is in no state to go on.
   fail(words) {
-    this.settle((asked) => asked.fail(new Error(words)));
+    this.settle('fail', new Error(words));
     this.end();
   }
 
-  // Forgets what was asked.
   drop() {
-    this.settle((asked) => asked.answer(null));
+    this.settle('answer', null);
   }
 
   // Ends what is under way at once, with its worker.
   end() {
-    if (this.worker) this.worker.terminate();
+    this.worker?.terminate();
     this.worker = null;
     this.drop();
-  }
-}
-
-// Asks one thing after another: while one is under way the latest of the others waits, so a picture comes for some of them at least.
-export class Latest {
-  constructor(ask) {
-    Object.assign(this, { ask, is_busy: false, waits: null });
-  }
-
-  // `ask` gets what is given here.
-  async start(given) {
-    this.waits = { given };
-    if (this.is_busy) return;
-    this.is_busy = true;
-    try {
-      while (this.waits) {
-        const { given: next } = this.waits;
-        this.waits = null;
-        await this.ask(next);
-      }
-    } finally {
-      this.is_busy = false;
-    }
   }
 }

@@ -2,32 +2,32 @@
 
 import { Chooser } from './chooser.js';
 import { Curve } from './curve.js';
-import { FileView, name_of } from './file_view.js';
 import { page_unit } from './paint.js';
-import { Later, element, fill, part, refuse_value, save, table_of, take_choice, take_drops, tell } from './parts.js';
+import { Later, element, fill, part, refuse_value, save, take_choice, take_drops, tell } from './parts.js';
 import { Rows } from './rows.js';
 import { read_units, unit_of, value_words } from './scale.js';
 import { Span } from './span.js';
 import { zoom_buttons } from './steer.js';
-import { stretch_table } from './stretches.js';
 import { LOW_STRIP, Strip, fill_legend } from './strip.js';
+import { stretch_table, table_of } from './tables.js';
 import { TimeAxis } from './time_axis.js';
+import { View, name_of } from './view.js';
 import { EXAMPLE_FIELDS } from '../data/example.js';
-import { ABOVE, BELOW, Places, cells_of } from '../data/table.js';
-import { counted, grouped, sentence } from '../data/text.js';
+import { Places, cells_of } from '../data/table.js';
+import { counted, grouped } from '../data/text.js';
 
 const [LEAST_HEIGHT, MOST_HEIGHT, HEAD] = [46, 110, 19]; // of a curve, and what stands above each
 
-export class FieldsView extends FileView {
+export class FieldsView extends View {
   constructor() {
     super('recording', 'fields', 'fields-picture', 'fields-side');
     Object.assign(this, { span: new Span(), curves: [], units: new Map() });
     this.asking = new Later(() => this.run(), 200);
-    this.rows = new Rows(part('fields-box'), 'fields', () => this.asking.start());
-    this.unit_rows = new Rows(part('units-box'), 'units', () => this.take_units());
+    this.rows = new Rows('fields', 'fields', () => this.asking.start());
+    this.unit_rows = new Rows('units', 'units', () => this.take_units());
     this.chooser = new Chooser(() => this.draw_curves());
     this.axis = new TimeAxis(() => this.change_axis());
-    this.strip = new Strip(part('fields-strip'), this.span, (at) => this.told(at), { form: LOW_STRIP, key: (event) => this.key(event), note: (at) => this.note(at) });
+    this.strip = new Strip(part('fields-strip'), this.span, { form: LOW_STRIP, leap: (way) => this.leap(way), note: (at) => this.note(at) });
     this.strip.clear('no recording yet');
     part('fields-zoom').append(zoom_buttons(this.span));
     this.span.watch(() => this.point());
@@ -57,7 +57,6 @@ export class FieldsView extends FileView {
     return this.judge(report ? [file, report] : [file], ['recording', 'report']);
   }
 
-  // Has the table made again, as it is asked for now.
   async run() {
     if (this.asked) await this.judge(this.asked.files, this.asked.given.roles);
   }
@@ -79,11 +78,16 @@ export class FieldsView extends FileView {
     Object.assign(judged, { file, report_file, files: [file, report_file].filter(Boolean) });
     judged.given = { ...judged.given, roles: file ? ['recording', 'kept'] : ['report'] };
     if (!this.asking.timer) this.put_back();
-    this.forget();
     this.sum();
     tell('fields-refusal', status === 2 || status === 3 ? '' : fault);
-    if (this.table) this.build(judged);
-    else this.strip.clear(status === 0 ? 'no recording yet' : status === 2 ? 'a number is refused' : text);
+    if (this.table) {
+      this.places = new Places(this.runs);
+      this.chooser.show(this.table.fields);
+      this.axis.show(this.table.fields);
+      this.strip.axis_words = this.axis.words(this);
+      this.strip.show(this.runs);
+    } else this.strip.clear(status === 0 ? 'no recording yet' : status === 2 ? 'a number is refused' : text);
+    this.draw_curves();
     tell('recording-name', file ? `${name_of(file, count)}: ${counted(file.size, 'byte', 'bytes')}${report_file ? ', with its report' : ''}.` : '');
     part('drop-report').hidden = !report_file;
     part('fields-example-mark').hidden = judged.fields !== EXAMPLE_FIELDS;
@@ -95,10 +99,6 @@ export class FieldsView extends FileView {
     return this.shown?.table;
   }
 
-  get runs() {
-    return this.shown?.runs;
-  }
-
   // Each refusal at what it is of; gives its words, or nothing.
   refuse({ status, text }, bits) {
     const wanted = bits ? 'A number from 1 to 49,152, digits alone.' : 'How many bits has a packet? From 1 to 49,152.';
@@ -107,33 +107,13 @@ export class FieldsView extends FileView {
     return status === 4 ? `This is no recording of packets of ${bits} bits: ${text}.` : text;
   }
 
-  forget() {
-    for (const curve of this.curves) curve.end();
-    this.curves = [];
-    for (const id of ['curves', 'fields-stretches']) fill(part(id));
-  }
-
-  build({ table, runs }) {
-    this.places = new Places(runs);
-    this.chooser.show(table.fields);
-    this.axis.show(table.fields);
-    this.draw_curves();
-    this.strip.axis_words = this.axis.words(this);
-    this.strip.show(runs);
-  }
-
-  // Draws the chosen fields.
   draw_curves() {
     for (const curve of this.curves) curve.end();
-    const shown = this.table ? this.chooser.shown() : [];
-    const height = this.curve_height(shown.length);
+    const shown = this.table ? this.chooser.shown() : [], height = this.curve_height(shown.length);
     this.curves = shown.map((field) => new Curve(this, field, height));
     fill(part('curves'), ...this.curves.map((curve) => curve.box));
     this.curves.forEach((curve) => curve.change());
-    fill(part('fields-stretches'), ...(this.table ? stretch_table(this, shown, (at) => {
-      this.span.go(at);
-      part('fields-strip').focus();
-    }) : []));
+    fill(part('fields-stretches'), ...(this.table ? stretch_table(this, shown, (at) => this.go(at)) : []));
   }
 
   // So high that up to eight curves are in sight at once.
@@ -174,47 +154,26 @@ export class FieldsView extends FileView {
     fill(part('fields-sum'), element('b', {}, all), `; ${out}${gaps}.`);
   }
 
-  key(event) {
-    if (event.ctrlKey || event.metaKey || event.altKey || !this.table || (event.key !== 'n' && event.key !== 'p')) return false;
-    const way = event.key === 'n' ? 1 : -1, { places, span, shown: { any } } = this;
+  // The next packet in which a field that is drawn is out of its limits, or -1.
+  leap(way) {
+    if (!this.table) return -1;
+    const { places, span, shown: { any } } = this, drawn = this.chooser.shown();
     let t = way > 0 ? places.written_before(span.at + 1) : places.written_before(span.at) - 1;
-    const drawn = this.chooser.shown();
     while (t >= 0 && t < any.length && !(any[t] && drawn.some((field) => field.out[t]))) t += way;
-    if (t >= 0 && t < any.length) span.go(places.number_of(t));
-    return true;
+    return t >= 0 && t < any.length ? places.number_of(t) : -1;
   }
 
-  // The value of a field at a packet, in words.
   value_words(field, at) {
-    const t = this.table ? this.places.of(at) : -1;
-    if (t < 0) return `${field.name} is not there`;
-    const cell = this.cells_at(t)[this.table.fields.indexOf(field)];
-    return `${field.name} is ${value_words(this.unit_of(field), cell)}${this.out_words(field, t)}`;
-  }
-
-  // The values of a packet as the table has them.
-  cells_at(t) {
-    if (!this.kept || this.kept.t !== t || this.kept.table !== this.table) this.kept = { t, table: this.table, cells: cells_of(this.table, t) };
-    return this.kept.cells;
-  }
-
-  out_words(field, t) {
-    if (field.out[t] === BELOW) return `, below its limit ${field.limit.low_word}`;
-    return field.out[t] === ABOVE ? `, above its limit ${field.limit.high_word}` : '';
+    const t = this.table ? this.places.of(at) : -1, { limit, name } = field;
+    if (t < 0) return `${name} is not there`;
+    const cell = cells_of(this.table, t)[this.table.fields.indexOf(field)], out = ['', `, below its limit ${limit?.low_word}`, `, above its limit ${limit?.high_word}`];
+    return `${name} is ${value_words(this.unit_of(field), cell)}${out[field.out[t]]}`;
   }
 
   // How many values of a packet are out of limits.
   note(at) {
     const t = this.places.of(at), out = t < 0 ? 0 : this.table.fields.filter((field) => field.out[t]).length;
     return out ? `, ${counted(out, 'value', 'values')} out of limits` : '';
-  }
-
-  // A packet in words, with all its values.
-  told(at) {
-    const name = `packet ${grouped(at)}`, t = this.places.of(at);
-    if (t < 0) return `${name} is ${this.runs.kinds[this.runs.kind_at(at)].word}: it is not in the recording`;
-    const cells = this.cells_at(t);
-    return `${name}: ${this.table.fields.map((field, place) => `${field.name} ${value_words(this.unit_of(field), cells[place])}${this.out_words(field, t)}`).join('; ') || 'no fields'}`;
   }
 
   value_row(field, t, cell) {
@@ -224,17 +183,17 @@ export class FieldsView extends FileView {
 
   point() {
     for (const curve of this.curves) curve.change();
-    const box = part('fields-words'), { table } = this;
+    const box = part('fields-words'), { table, runs } = this;
     if (!table || table.count === 0) {
       fill(box);
       return;
     }
     const { at } = this.span, t = this.places.of(at), time = this.strip.axis_words ? `, ${this.strip.axis_words(at)}` : '';
     if (t < 0) {
-      fill(box, element('p', { class: 'state' }, sentence(this.told(at))));
+      fill(box, element('p', { class: 'state' }, `Packet ${grouped(at)} is ${runs.kinds[runs.kind_at(at)].word}: it is not in the recording.`));
       return;
     }
-    const cells = this.cells_at(t), place = this.shown.report_file ? `, at place ${grouped(t)} of the recording` : '';
+    const cells = cells_of(table, t), place = this.shown.report_file ? `, at place ${grouped(t)} of the recording` : '';
     const fields = this.chooser.fields.map((field) => this.value_row(field, t, cells[table.fields.indexOf(field)]));
     fill(box, element('p', { class: 'state' }, `Packet ${grouped(at)}${time}${place}.`), table_of('The values of the packet', ['field', 'value', 'limits', ''], fields));
   }

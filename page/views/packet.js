@@ -9,9 +9,7 @@ import { Reader, counted, grouped, sentence } from '../data/text.js';
 
 const HEADER = 6, MOST_DATA = 65536;
 
-function fact_list(facts) {
-  return element('dl', { class: 'facts' }, ...facts.flatMap(([name, told]) => [element('dt', {}, name), element('dd', {}, told)]));
-}
+const fact_list = (facts) => element('dl', { class: 'facts' }, ...facts.flatMap(([name, told]) => [element('dt', {}, name), element('dd', {}, told)]));
 
 export class PacketDetails {
   constructor(box) {

@@ -18,14 +18,10 @@ export function read_units(text) {
   return { units, wrong: 0 };
 }
 
-export function unit_of(units, name) {
-  return units.get(name) ?? NONE;
-}
+export const unit_of = (units, name) => units.get(name) ?? NONE;
 
 // A number with at most six digits that count.
-export function short_number(number) {
-  return String(Number(number.toPrecision(6)));
-}
+export const short_number = (number) => String(Number(number.toPrecision(6)));
 
 // A value in its unit; `cell` is how the table has it.
 export function value_words(unit, cell) {
@@ -43,7 +39,6 @@ export function ticks_between(low, high, most) {
   return found;
 }
 
-// A number of seconds as hours, minutes and seconds.
 function clock_words(seconds) {
   const whole = Math.floor(Math.abs(seconds)), two = (number) => String(number).padStart(2, '0');
   const rest = Math.abs(seconds) - whole > 1e-6 ? (Math.abs(seconds) - whole).toFixed(3).slice(1) : '';

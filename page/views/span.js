@@ -1,16 +1,14 @@
 // What part of all packets is seen, and which packet is the chosen one. Strips and curves that belong together share one.
 
 export class Span {
-  constructor() {
-    this.total = 0;
-    this.first = 0; // the packet at the left edge; it may be a fraction
-    this.width = 1; // so many packets are seen
-    this.at = 0; // the chosen packet
-    this.from = null; // where a choice of several begins
-    this.kept = null; // what was chosen, while another packet is looked at
-    this.is_dragged = false;
-    this.watchers = [];
-  }
+  total = 0;
+  first = 0; // the packet at the left edge; it may be a fraction
+  width = 1; // so many packets are seen
+  at = 0; // the chosen packet
+  from = null; // where a choice of several begins
+  kept = null; // what was chosen, while another packet is looked at
+  is_dragged = false;
+  watchers = [];
 
   watch(told) {
     this.watchers.push(told);
@@ -45,7 +43,6 @@ export class Span {
     this.tell();
   }
 
-  // Brings the chosen packet into sight.
   sight() {
     if (this.at < this.first) this.first = this.at;
     if (this.at + 1 > this.first + this.width) this.first = this.at + 1 - this.width;
@@ -87,7 +84,6 @@ export class Span {
     this.tell();
   }
 
-  // Chooses from one packet to another while a drag goes on.
   drag(from, to) {
     this.is_dragged = true;
     this.from = from;
@@ -99,7 +95,6 @@ export class Span {
     this.tell();
   }
 
-  // The first and the last packet of the choice.
   chosen() {
     const other = this.from ?? this.at;
     return [Math.min(this.at, other), Math.max(this.at, other)];

@@ -4,23 +4,11 @@ import { remembered } from './address.js';
 import { Desk, compile_module } from './desk.js';
 import { FieldsView } from './fields.js';
 import { ForecastView } from './forecast.js';
-import { brings_files, fill, part, tell } from './parts.js';
+import { take_drops, tell } from './parts.js';
 import { StoreView } from './store.js';
 import { StreamsView } from './streams.js';
 import { show_view, shown_view, start_tabs, views } from './tabs.js';
 import { EXAMPLE } from '../data/example.js';
-
-function start_drops() {
-  window.addEventListener('dragover', (event) => {
-    if (brings_files(event)) event.preventDefault();
-  });
-  window.addEventListener('drop', (event) => {
-    if (!brings_files(event)) return;
-    event.preventDefault();
-    if (shown_view() === 'forecast') show_view('store');
-    views[shown_view()].take([...event.dataTransfer.files]);
-  });
-}
 
 // Whether the program can be started in this browser; if not, the page says why.
 async function can_start() {
@@ -48,9 +36,11 @@ export async function start() {
   start_faults();
   if (!await can_start()) return;
   document.querySelector('main').hidden = false;
-  fill(part('version'), '@VERSION@');
   start_tabs();
-  start_drops();
+  take_drops(document.documentElement, (files) => {
+    if (shown_view() === 'forecast') show_view('store');
+    views[shown_view()].take(files);
+  });
   Object.assign(views, { forecast: new ForecastView(), store: new StoreView(), streams: new StreamsView(), fields: new FieldsView() });
   views.forecast.put(remembered(location.hash) || EXAMPLE);
   window.addEventListener('hashchange', () => {

@@ -1,25 +1,27 @@
 // How a canvas steers a span: by wheel, keys, mouse and fingers. A hand that slips changes no text: only a drag of the mouse that is long
 // enough to be meant makes a row, and that row is shown before the button is let go.
 
-import { page_unit } from './paint.js';
+import { EDGE, page_unit } from './paint.js';
 import { button, element } from './parts.js';
 
 const LEAST_DRAG = 8; // units of the page
 const LEAST_TIME = 150; // milliseconds for which the row of a drag was in sight
 
-// What a key does to a span; gives whether it is a key for it.
-function steer_by_key(span, event) {
+// What a key does to a span; gives whether it is a key for it. `leap` gives the packet to which N or P goes, or one below 0.
+function steer_by_key(span, event, leap) {
   if (event.ctrlKey || event.metaKey || event.altKey) return false;
-  const leap = Math.max(1, Math.round(span.width / 10));
-  const moves = { ArrowLeft: -1, ArrowRight: 1, PageUp: -leap, PageDown: leap, Home: -Infinity, End: Infinity };
-  const zooms = { '+': 0.5, '=': 0.5, ArrowUp: 0.5, '-': 2, _: 2, ArrowDown: 2 };
+  const tenth = Math.max(1, Math.round(span.width / 10));
+  const moves = { ArrowLeft: span.at - 1, ArrowRight: span.at + 1, PageUp: span.at - tenth, PageDown: span.at + tenth, Home: 0, End: span.total - 1 };
+  const zooms = { '+': 0.5, '=': 0.5, ArrowUp: 0.5, '-': 2, _: 2, ArrowDown: 2 }, way = { n: 1, p: -1 }[event.key.toLowerCase()];
   if (event.key in moves) {
-    const step = moves[event.key];
-    span.go(step === -Infinity ? 0 : step === Infinity ? span.total - 1 : span.at + step, event.shiftKey);
+    span.go(moves[event.key], event.shiftKey);
   } else if (event.key in zooms) {
     span.zoom(zooms[event.key]);
   } else if (event.key === '0') {
     span.see_all();
+  } else if (way) {
+    const at = leap(way);
+    if (at >= 0) span.go(at);
   } else {
     return false;
   }
@@ -33,12 +35,12 @@ export function zoom_buttons(span, of = '') {
     one('All', 'See all packets', () => span.see_all()));
 }
 
-// Has a canvas steer a span. `left` and `right` are its margins; `more.key` takes the keys of the view, and `more.drag` is told of a drag's
+// Has a canvas steer a span. `more.leap` tells where N and P go, `more.key` takes the keys of the view, and `more.drag` is told of a drag's
 // first and last packet. Without it a drag moves what is seen.
-export function steer(canvas, span, left, right, more = {}) {
+export function steer(canvas, span, more) {
   const share = (event) => {
     const box = canvas.getBoundingClientRect(), unit = page_unit();
-    return (event.clientX - box.left - left * unit) / Math.max(1, box.width - (left + right) * unit);
+    return (event.clientX - box.left - EDGE * unit) / Math.max(1, box.width - 2 * EDGE * unit);
   };
   // The wheel scrolls the page, as everywhere, unless Ctrl is held or the canvas has the focus.
   canvas.addEventListener('wheel', (event) => {
@@ -48,7 +50,7 @@ export function steer(canvas, span, left, right, more = {}) {
     else span.zoom(Math.exp(Math.max(-60, Math.min(60, event.deltaY)) / 200), span.first + Math.max(0, Math.min(1, share(event))) * span.width);
   }, { passive: false });
   canvas.addEventListener('keydown', (event) => {
-    if (span.total === 0 || !((more.key && more.key(event)) || steer_by_key(span, event))) return;
+    if (span.total === 0 || !(more.key?.(event) || steer_by_key(span, event, more.leap))) return;
     span.kept = null;
     event.preventDefault();
   });

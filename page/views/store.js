@@ -1,15 +1,15 @@
 // After a pass: what became of the packets of a store.
 
-import { FileView, name_of } from './file_view.js';
 import { kept_bits, remember_bits } from './memory.js';
 import { PacketDetails } from './packet.js';
 import { Later, button, element, fill, part, refuse_value, save, take_choice, take_drops, tell } from './parts.js';
-import { report_table } from './report_table.js';
 import { Span } from './span.js';
 import { zoom_buttons } from './steer.js';
-import { packet_words, store_warning, why_store } from './store_words.js';
+import { store_warning, why_store } from './store_words.js';
 import { Strip, fill_legend } from './strip.js';
+import { report_table } from './tables.js';
 import { show_view, views } from './tabs.js';
+import { View, name_of } from './view.js';
 import { EARLY, LOST, WRITTEN, WRONG } from '../data/runs.js';
 import { counted, grouped } from '../data/text.js';
 
@@ -17,12 +17,12 @@ const MOST_WRONG = 8; // packets that are named at once
 const MOST_LOSSES = 20000; // stretches that a forecast is given
 const IS_LOSS = new Set([LOST, EARLY, WRONG]); // for a forecast: what is damaged counts as lost
 
-export class StoreView extends FileView {
+export class StoreView extends View {
   constructor() {
     super('store', 'store', 'store-picture');
     Object.assign(this, { span: new Span(), typed: new Set() });
     this.asking = new Later(() => this.run(), 150);
-    this.strip = new Strip(part('store-strip'), this.span, (at) => packet_words(this.shown.runs, this.shown.verb, at), { key: (event) => this.key(event) });
+    this.strip = new Strip(part('store-strip'), this.span);
     this.strip.clear('no store yet');
     this.details = new PacketDetails(part('store-words'));
     part('store-zoom').append(zoom_buttons(this.span));
@@ -106,29 +106,20 @@ export class StoreView extends FileView {
   tell_file({ files: [file], count, apids = [] }) {
     fill(part('store-name'), file ? `${name_of(file, count)}: ${counted(file.size, 'byte', 'bytes')}, ${counted(apids.length, 'APID', 'APIDs')}.` : '');
     fill(part('store-apids'), ...apids.map(([value]) => element('option', { value })));
-    const most = 12, more = apids.length > most ? [` and ${grouped(apids.length - most)} more`] : [];
-    fill(part('store-offers'), ...(apids.length > 1 ? ['APIDs in it: ', ...apids.slice(0, most).map(([apid, packets]) => this.offer(String(apid), packets)), ...more] : []));
+    const most = 12, more = apids.length > most ? [` and ${grouped(apids.length - most)} more`] : [], { files } = this.judged;
+    const offers = apids.slice(0, most).map(([apid, packets]) => button(`${apid} (${counted(packets, 'packet', 'packets')})`, () => this.open(files, null, String(apid))));
+    fill(part('store-offers'), ...(apids.length > 1 ? ['APIDs in it: ', ...offers, ...more] : []));
     part('to-streams').hidden = apids.length < 2;
-  }
-
-  offer(apid, packets) {
-    const { files } = this.judged;
-    return button(`${apid} (${counted(packets, 'packet', 'packets')})`, () => this.open(files, null, apid));
-  }
-
-  go(at) {
-    this.span.go(at);
-    part('store-strip').focus();
   }
 
   // Chooses the first packet that is wrong, or else the first one that is not written.
   begin() {
-    const { runs } = this.shown, wrong = runs.kind.subarray(0, runs.size).indexOf(WRONG);
-    const at = wrong >= 0 ? runs.first[wrong] : runs.size && runs.kind[0] ? 0 : runs.next_bad(0, 1);
+    const { runs } = this, at = runs.totals[WRONG] ? runs.first_of(WRONG) : runs.size && runs.kind[0] ? 0 : runs.next_bad(0, 1);
     if (at >= 0) this.span.go(at);
   }
 
-  refuse({ status, text, bits }) {
+  // Each refusal at what it is of; beside that of a store a button that looks at what is before the fault.
+  refuse({ status, text, bits, apid, files: [file] }) {
     const wanted = bits === '' ? 'How many bits has a packet? The sender knows: from 1 to 49,152.' : 'A number from 1 to 49,152, digits alone.';
     refuse_value(part('store-bits'), text === 'word 2 is wrong' ? wanted : '');
     refuse_value(part('store-apid'), text === 'word 3 is wrong' ? 'A number from 0 to 2046, digits alone.' : '');
@@ -136,15 +127,8 @@ export class StoreView extends FileView {
     const box = part('store-refusal'), why = why_store(text);
     box.hidden = status === 0 || status === 2;
     fill(box, why ? `This store is refused: ${why}. ` : '', element('span', { class: 'program' }, status === 4 ? `The program says: ${text}. ` : `${text}. `));
-    const at = / at byte ([0-9]+)/.exec(text);
-    if (at && Number(at[1]) > 0) box.append(this.front_button(Number(at[1])));
-  }
-
-  // A button that looks at what is before the fault alone.
-  front_button(bytes) {
-    const { files: [file], bits: given, apid } = this.judged;
-    const look = () => this.open([new File([file.slice(0, bytes)], `${file.name}, its first ${grouped(bytes)} bytes`)], given, apid);
-    return button(`Look at the ${grouped(bytes)} bytes before it`, look);
+    const bytes = Number(/ at byte ([0-9]+)/.exec(text)?.[1]), front = () => new File([file.slice(0, bytes)], `${file.name}, its first ${grouped(bytes)} bytes`);
+    if (bytes > 0) box.append(button(`Look at the ${grouped(bytes)} bytes before it`, () => this.open([front()], bits, apid)));
   }
 
   sum() {
@@ -170,34 +154,24 @@ export class StoreView extends FileView {
     return found.length ? ['Wrong: ', ...found, ...(runs.totals[WRONG] > found.length ? [` and ${grouped(runs.totals[WRONG] - found.length)} more`] : [])] : [];
   }
 
-  key(event) {
-    if (event.ctrlKey || event.metaKey || event.altKey || !this.shown || (event.key !== 'n' && event.key !== 'p')) return false;
-    const next = this.shown.runs.next_bad(this.span.at, event.key === 'n' ? 1 : -1, this.strip.only);
-    if (next >= 0) this.span.go(next);
-    return true;
-  }
-
   point() {
-    this.details.show(this.shown && this.shown.runs.total > 0 ? this.shown : null, this.span.at);
+    this.details.show(this.runs?.total ? this.shown : null, this.span.at);
   }
 
   // The losses of the report, with what is damaged, as the script of a forecast, of so many packets as it tells of.
   to_forecast() {
-    const { runs, told } = this.shown, rows = [];
-    let first = -1;
-    if (told.counts[LOST].stretches > MOST_LOSSES) {
-      tell('store-warning', `It lost packets in ${grouped(told.counts[LOST].stretches)} stretches: too many rows for a forecast on this page.`);
-      return;
-    }
+    const { runs } = this, lost = [];
     for (let place = 0; place < runs.size; place += 1) {
       if (!IS_LOSS.has(runs.kind[place])) continue;
-      if (first < 0) first = runs.first[place];
-      if (place + 1 < runs.size && IS_LOSS.has(runs.kind[place + 1])) continue;
-      rows.push(`drop,${first},${runs.last(place)},1\n`);
-      first = -1;
+      if (lost.at(-1)?.[1] === runs.first[place] - 1) lost.at(-1)[1] = runs.last(place);
+      else lost.push([runs.first[place], runs.last(place)]);
+    }
+    if (lost.length > MOST_LOSSES) {
+      tell('store-warning', `It lost packets in ${grouped(lost.length)} stretches: too many rows for a forecast on this page.`);
+      return;
     }
     show_view('forecast');
-    views.forecast.put_losses(runs.total, rows.join(''));
+    views.forecast.put_losses(runs.total, lost.map(([first, last]) => `drop,${first},${last},1\n`).join(''));
   }
 
   to_streams() {

@@ -20,10 +20,7 @@ const DISORDER = 'packets came in another order than they were sent, and each of
 const NOT_THE_SENDERS = 'the bits of a packet, or the APID, may not be the sender\'s.';
 const NEARLY = 0.9; // of those that arrived
 
-// Why the program refuses a store, in words, or nothing.
-export function why_store(text) {
-  return (WHY_STORE.find(([words]) => text.includes(words)) || ['', ''])[1];
-}
+export const why_store = (text) => (WHY_STORE.find(([words]) => text.includes(words)) || ['', ''])[1];
 
 // A packet in words. After `late` there is no level, since the report tells none.
 export function packet_words(runs, verb, at) {

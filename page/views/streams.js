@@ -1,20 +1,20 @@
 // All APIDs of a store in one view: a strip for each whose bits are given.
 
-import { FileView, name_of } from './file_view.js';
 import { kept_bits, remember_bits } from './memory.js';
 import { Later, button, element, fill, part, save, take_choice, take_drops, tell } from './parts.js';
 import { Span } from './span.js';
 import { zoom_buttons } from './steer.js';
-import { packet_words, why_store } from './store_words.js';
+import { why_store } from './store_words.js';
 import { LOW_STRIP, Strip } from './strip.js';
 import { show_view, views } from './tabs.js';
+import { View, name_of } from './view.js';
 import { stream_rows } from '../data/records.js';
 import { FINDINGS, LOST, Runs } from '../data/runs.js';
 import { counted, grouped } from '../data/text.js';
 
 const lost_of = ({ told }) => told.counts[LOST].packets;
 
-export class StreamsView extends FileView {
+export class StreamsView extends View {
   constructor() {
     super('streams', 'streams', 'streams-picture');
     Object.assign(this, { inputs: new Map(), strips: [] });
@@ -31,7 +31,6 @@ export class StreamsView extends FileView {
     return this.ask({ streams: null, count: files.length, kept: kept_bits }, files.slice(0, 1));
   }
 
-  // The rows of the streams whose bits are given.
   text() {
     return [...this.inputs].filter(([, input]) => input.value !== '').map(([apid, input]) => `${apid},${input.value}\n`).join('');
   }
@@ -52,12 +51,10 @@ export class StreamsView extends FileView {
     for (const [apid, input] of this.inputs) input.value = bits.get(apid) ?? '';
   }
 
-  // A field for the bits of each APID.
   offer({ files: [file], count, apids, most }) {
     this.inputs.clear();
     const rows = most.map(([number, packets]) => {
-      const apid = String(number), input = element('input', { inputmode: 'numeric', size: 6, autocomplete: 'off', 'aria-label': `Bits of APID ${apid}` });
-      input.addEventListener('input', () => this.asking.start());
+      const apid = String(number), input = element('input', { inputmode: 'numeric', size: 6, autocomplete: 'off', 'aria-label': `Bits of APID ${apid}`, on_input: () => this.asking.start() });
       this.inputs.set(apid, input);
       return element('tr', {}, element('th', { scope: 'row' }, apid), element('td', { class: 'number' }, grouped(packets)), element('td', {}, input));
     });
@@ -105,11 +102,9 @@ export class StreamsView extends FileView {
       views.store.open(files, bits, apid);
     });
     const head = element('div', { class: 'headline' }, element('p', { class: 'sum' }, element('b', {}, `APID ${apid}: `), sum, ' ', open), zoom_buttons(span, `, APID ${apid}`));
-    const box = element('section', { class: 'stream', 'aria-label': `APID ${apid}` }, head, canvas);
-    const strip = new Strip(canvas, span, (at) => packet_words(runs, 'late', at), { form: LOW_STRIP });
-    this.strips.push(strip);
-    strip.show(runs);
-    return box;
+    this.strips.push(new Strip(canvas, span, { form: LOW_STRIP }));
+    this.strips.at(-1).show(runs);
+    return element('section', { class: 'stream', 'aria-label': `APID ${apid}` }, head, canvas);
   }
 
   // Marks the field whose row is refused, and says what else is.

@@ -2,13 +2,13 @@
 // none that is there is left out.
 
 import { button, element, fill } from './parts.js';
-import { LEVEL_BAR, begin_drawing, colours, draw_axis, draw_choice, draw_hatch, draw_soon, draw_whole, keep_drawn, lost_pattern, write } from './paint.js';
-import { steer } from './steer.js';
+import { EDGE, LEVEL_BAR, begin_drawing, colours, draw_axis, draw_choice, draw_hatch, draw_whole, fill_box, lost_pattern, within, write, x_of } from './paint.js';
+import { Picture } from './picture.js';
 import { NO_LEVEL } from '../data/runs.js';
 import { grouped, range_words } from '../data/text.js';
 
-export const STRIP = { height: 132, left: 10, right: 10, marks: 34, rail: 38, top: 44, bottom: 92, whole: 120 };
-export const LOW_STRIP = { height: 88, left: 10, right: 10, marks: 12, rail: 16, top: 22, bottom: 52, whole: 82, is_low: true }; // beside other pictures
+export const STRIP = { height: 132, marks: 34, rail: 38, top: 44, bottom: 92, whole: 120 };
+export const LOW_STRIP = { height: 88, marks: 12, rail: 16, top: 22, bottom: 52, whole: 82, is_low: true }; // beside other pictures
 export const STEPS = 48; // the heights of a unit's states have this sum
 const LEAST = 2; // no state that is there has less
 
@@ -23,9 +23,7 @@ export function heights_of(counts) {
 
 // The parts of a strip from left to right: `from` and `to` in units of the page from its left edge, the worst kind that is there, and the
 // heights of all kinds.
-export function strip_parts(runs, span, wide) {
-  return span.width <= wide ? whole_parts(runs, span, wide) : shared_parts(runs, span, wide);
-}
+export const strip_parts = (runs, span, wide) => span.width <= wide ? whole_parts(runs, span, wide) : shared_parts(runs, span, wide);
 
 // Those if each packet has a unit of its own at least: one for each run.
 function whole_parts(runs, span, wide) {
@@ -61,45 +59,34 @@ function part_of(one, only) {
   return one.heights[only] ? { ...one, kind: only, is_whole: one.heights[only] === STEPS, heights: one.heights.map((height, kind) => (kind === only ? height : 0)) } : null;
 }
 
-export class Strip {
-  // `told` gives the words of a packet, of which the canvas says the shortest; `more` is for the keys and the drags of the view.
-  constructor(canvas, span, told, more = {}) {
-    Object.assign(this, { canvas, span, told, form: more.form || STRIP, runs: null, refusal: '', axis_words: null, drag_word: more.drag_word || (() => ''), note: more.note || (() => ''), only: -1, cut: { key: '', parts: [] } });
+export class Strip extends Picture {
+  // `note` gives more words on a packet; `more` is for the keys and the drags of the view. N and P go to the next packets that are not of the
+  // best kind, or of the kind that is shown alone, unless it says otherwise.
+  constructor(canvas, span, { form = STRIP, drag_word = () => '', note = () => '', ...more } = {}) {
+    super(canvas, span, form.height, { leap: (way) => (this.runs ? this.runs.next_bad(span.at, way, this.only) : -1), ...more });
+    Object.assign(this, { form, drag_word, note, runs: null, refusal: '', axis_words: null, only: -1, cut: { key: '', parts: [] } });
     span.watch(() => this.change());
-    canvas.style.height = `${this.form.height / 16}rem`;
-    steer(canvas, span, STRIP.left, STRIP.right, more);
-    this.end = keep_drawn(this, canvas);
   }
 
   show(runs) {
     if (!runs.totals[this.only]) this.only = -1;
-    this.runs = runs.total > 0 ? runs : null;
-    this.refusal = runs.total > 0 ? '' : 'no packets';
-    this.cut.key = '';
+    Object.assign(this, { runs: runs.total > 0 ? runs : null, refusal: 'no packets', cut: { key: '', parts: [] } });
     this.span.set_total(runs.total);
     this.change();
   }
 
   // No picture, and why: after a refusal no old one stays.
   clear(refusal) {
-    this.runs = null;
-    this.refusal = refusal;
-    this.change();
+    Object.assign(this, { runs: null, refusal }).change();
   }
 
-  change() {
-    this.tell();
-    draw_soon(this);
+  is_empty() {
+    return !this.runs;
   }
 
-  tell() {
-    const { canvas, span, runs } = this;
-    canvas.setAttribute('aria-valuemin', 0);
-    canvas.setAttribute('aria-valuemax', runs ? span.total - 1 : 0);
-    canvas.setAttribute('aria-valuenow', runs ? span.at : 0);
-    const [first, last] = span.chosen();
-    const chosen = runs && last > first ? `, ${range_words(first, last)} chosen` : '';
-    canvas.setAttribute('aria-valuetext', runs ? `packet ${grouped(span.at)}, ${runs.kinds[runs.kind_at(span.at)].word}${this.note(span.at)}${chosen}` : `no picture: ${this.refusal}`);
+  words() {
+    const { span, runs } = this, [first, last] = span.chosen(), chosen = last > first ? `, ${range_words(first, last)} chosen` : '';
+    return runs ? `packet ${grouped(span.at)}, ${runs.kinds[runs.kind_at(span.at)].word}${this.note(span.at)}${chosen}` : `no picture: ${this.refusal}`;
   }
 
   // The parts of what is seen, cut anew if that is another part of the packets or another kind alone.
@@ -110,45 +97,34 @@ export class Strip {
   }
 
   draw() {
-    const pen = begin_drawing(this.canvas, this.form.height);
+    const pen = begin_drawing(this.canvas, this.height), { span, form } = this;
     if (!pen) return;
-    const wide = pen.width - STRIP.left - STRIP.right, { top, bottom, whole } = this.form;
     if (!this.runs) {
-      write(pen, this.refusal, pen.width / 2, this.form.height / 2 + 6, colours().faint, 13, 'center');
+      write(pen, this.refusal, EDGE + pen.wide / 2, form.height / 2 + 6, colours().faint, 13, 'center');
       return;
     }
-    if (!this.form.is_low) draw_axis(pen, this.span, STRIP.left, wide, 20, true);
-    draw_axis(pen, this.span, STRIP.left, wide, this.form.bottom + 6, false, this.axis_words ?? undefined);
-    draw_whole(pen, this.span, STRIP.left, wide, whole);
-    const parts = this.parts(wide), lost = lost_pattern(pen);
+    if (!form.is_low) draw_axis(pen, span, 20, true);
+    draw_axis(pen, span, form.bottom + 6, false, this.axis_words);
+    draw_whole(pen, span, form.whole);
+    const parts = this.parts(pen.wide), lost = lost_pattern(pen), word = span.is_dragged ? this.drag_word(...span.chosen()) : '';
     for (const one of parts) this.draw_part(pen, one, lost);
-    this.draw_cells(pen, wide);
-    this.draw_letters(pen, parts, wide);
-    draw_choice(pen, this.span, STRIP.left, wide, top, bottom, true);
-    this.draw_drag(pen);
+    if (pen.wide / span.width >= 5) within(pen, EDGE, form.top, pen.wide, form.bottom - form.top, () => this.draw_cells(pen));
+    this.draw_letters(pen, parts);
+    draw_choice(pen, span, form.top, form.bottom, true);
+    if (word) write(pen, word, EDGE + pen.wide / 2, form.whole + 10, colours().ink, 12, 'center', 'bold');
   }
 
   // A part: its colours, and for what is not the best kind a rail above it, which tells by its height and lightness too.
   draw_part(pen, one, lost) {
-    const { rail, edge, hatch } = colours(), { top, bottom, rail: line } = this.form, kind = this.runs.kinds[one.kind];
-    const x = STRIP.left + one.from, width = Math.max(1, one.to - one.from), is_lost = kind.word === 'lost';
-    if (one.is_whole) {
-      pen.fillStyle = is_lost && width < 3 ? edge : kind.fill;
-      pen.fillRect(x, top, width, bottom - top);
-      if (is_lost && width >= 3) draw_hatch(pen, x, top, width, bottom - top, hatch);
-    } else {
-      this.draw_shares(pen, one, x, width, lost);
-    }
-    if (one.kind > 0) {
-      pen.fillStyle = rail;
-      const high = one.kind === 1 && !is_lost ? 2 : 5;
-      pen.fillRect(x, line + 5 - high, width, high);
-    }
-    if (width >= 3 && one.is_whole) {
-      pen.strokeStyle = edge;
-      pen.lineWidth = 1;
-      pen.strokeRect(x + 0.5, top + 0.5, width - 1, bottom - top - 1);
-    }
+    const { rail, edge, hatch } = colours(), { top, bottom, rail: line } = this.form, kind = this.runs.kinds[one.kind], height = bottom - top;
+    const x = EDGE + one.from, width = Math.max(1, one.to - one.from), is_lost = kind.word === 'lost', is_wide = width >= 3 && one.is_whole;
+    if (one.is_whole) fill_box(pen, is_lost && width < 3 ? edge : kind.fill, x, top, width, height);
+    else this.draw_shares(pen, one, x, width, lost);
+    if (is_wide && is_lost) draw_hatch(pen, x, top, width, height, hatch);
+    const high = one.kind === 1 && !is_lost ? 2 : 5;
+    if (one.kind > 0) fill_box(pen, rail, x, line + 5 - high, width, high);
+    Object.assign(pen, { strokeStyle: edge, lineWidth: 1 });
+    if (is_wide) pen.strokeRect(x + 0.5, top + 0.5, width - 1, height - 1);
   }
 
   // The states of a unit above each other, the best one below.
@@ -156,77 +132,52 @@ export class Strip {
     const { top, bottom } = this.form;
     let y = bottom;
     one.heights.forEach((steps, place) => {
-      if (steps === 0) return;
-      const height = (steps * (bottom - top)) / STEPS;
+      const height = (steps * (bottom - top)) / STEPS, { word, fill: colour } = this.runs.kinds[place];
       y -= height;
-      pen.fillStyle = this.runs.kinds[place].word === 'lost' ? lost : this.runs.kinds[place].fill;
-      pen.fillRect(x, y, width, height);
+      if (steps) fill_box(pen, word === 'lost' ? lost : colour, x, y, width, height);
     });
   }
 
   // What each packet has of its own, if there is room: an edge, a bar for its level, a ring for repeats, a dot for what is half known.
-  draw_cells(pen, wide) {
-    const { runs, span } = this, each = wide / span.width, { top, bottom, left } = this.form;
-    if (each < 5) return;
-    pen.save();
-    pen.beginPath();
-    pen.rect(left, top, wide, bottom - top);
-    pen.clip();
+  draw_cells(pen) {
+    const { runs, span } = this, each = pen.wide / span.width, { top, bottom } = this.form;
     for (let number = Math.floor(span.first); number < Math.min(span.total, span.first + span.width); number += 1) {
-      const x = left + (number - span.first) * each, place = runs.place_of(number);
-      pen.fillStyle = each < 9 ? 'rgba(0, 0, 0, 0.12)' : colours().edge;
-      if (x > left) pen.fillRect(Math.round(x), top, 1, bottom - top);
+      const x = x_of(pen, span, number), place = runs.place_of(number), level = runs.level[place], { ink } = runs.kinds[runs.kind[place]];
+      if (x > EDGE) fill_box(pen, each < 9 ? 'rgba(0, 0, 0, 0.12)' : colours().edge, Math.round(x), top, 1, bottom - top);
       if (this.only >= 0 && runs.kind[place] !== this.only) continue;
-      const level = runs.level[place], ink = runs.kinds[runs.kind[place]].ink;
-      if (level !== NO_LEVEL && level > 0) {
-        const bar = ((bottom - top - 2) * level) / 15;
-        pen.fillStyle = LEVEL_BAR;
-        pen.fillRect(x + 1, bottom - 1 - bar, Math.max(2, Math.min(6, each * 0.4)), bar);
-      }
+      const bar = level === NO_LEVEL ? 0 : ((bottom - top - 2) * level) / 15;
+      fill_box(pen, LEVEL_BAR, x + 1, bottom - 1 - bar, Math.max(2, Math.min(6, each * 0.4)), bar);
       if (each >= 14) this.draw_marks(pen, place, x + each, ink);
       if (each >= 60 && level !== NO_LEVEL && !this.form.is_low) write(pen, `level ${level}`, x + each / 2 + 3, bottom - 6, ink, 10, 'center');
     }
-    pen.restore();
   }
 
   draw_marks(pen, place, right, ink) {
-    const { runs } = this;
-    if (runs.half[place]) {
-      pen.fillStyle = ink;
-      pen.fillRect(right - 8, this.form.bottom - 5, 5, 2);
-    }
-    if (runs.repeats[place]) {
-      pen.beginPath();
-      pen.arc(right - 6, this.form.top + 6, 3, 0, 7);
-      pen.fillStyle = '#ffffff';
-      pen.fill();
-      pen.strokeStyle = '#000000';
-      pen.lineWidth = 1.2;
-      pen.stroke();
-    }
+    const { runs, form } = this;
+    if (runs.half[place]) fill_box(pen, ink, right - 8, form.bottom - 5, 5, 2);
+    if (!runs.repeats[place]) return;
+    pen.beginPath();
+    pen.arc(right - 6, form.top + 6, 3, 0, 7);
+    Object.assign(pen, { fillStyle: '#ffffff', strokeStyle: '#000000', lineWidth: 1.2 });
+    pen.fill();
+    pen.stroke();
   }
 
   // The letters: in a part that has room for it, else above it; above they thin out where they would touch.
-  draw_letters(pen, parts, wide) {
-    const { ink } = colours(), each = wide / this.span.width, { top, bottom, marks } = this.form;
+  draw_letters(pen, parts) {
+    const { ink } = colours(), { top, bottom, marks, is_low } = this.form, has_words = pen.wide / this.span.width >= 60 && !is_low;
     let free = -Infinity;
     for (const one of parts) {
-      const kind = this.runs.kinds[one.kind], middle = STRIP.left + (one.from + one.to) / 2;
+      const kind = this.runs.kinds[one.kind], middle = EDGE + (one.from + one.to) / 2;
       if (!kind.letter) continue;
       if (one.to - one.from >= 14 && one.is_whole) {
         write(pen, kind.letter, middle, (top + bottom) / 2 + 6, kind.ink, 17, 'center', 'bold');
-        if (each >= 60 && !this.form.is_low) write(pen, kind.word, middle, bottom - 6, kind.ink, 10, 'center');
+        if (has_words) write(pen, kind.word, middle, bottom - 6, kind.ink, 10, 'center');
       } else if (middle - 5 > free) {
         write(pen, kind.letter, middle, marks, ink, 11, 'center', 'bold');
         free = middle + 6;
       }
     }
-  }
-
-  // What a drag makes when the button is let go, while it is down.
-  draw_drag(pen) {
-    const word = this.span.is_dragged ? this.drag_word(...this.span.chosen()) : '';
-    if (word) write(pen, word, pen.width / 2, this.form.whole + 10, colours().ink, 12, 'center', 'bold');
   }
 }
 

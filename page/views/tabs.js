@@ -1,7 +1,7 @@
 // The page's views and their tabs.
 
-import { draw_all } from './paint.js';
 import { part } from './parts.js';
+import { draw_all } from './picture.js';
 
 const NAMES = ['forecast', 'store', 'streams', 'fields'];
 export const views = {}; // by their names
@@ -16,18 +16,13 @@ export function show_view(name) {
   draw_all();
 }
 
-export function shown_view() {
-  return NAMES.find((name) => !part(`view-${name}`).hidden);
-}
+export const shown_view = () => NAMES.find((name) => !part(`view-${name}`).hidden);
 
 export function start_tabs() {
   NAMES.forEach((name, place) => {
-    const tab = part(`tab-${name}`);
-    tab.addEventListener('click', () => show_view(name));
-    tab.addEventListener('keydown', (event) => {
-      const way = { ArrowRight: 1, ArrowLeft: -1 }[event.key];
-      if (!way) return;
-      const next = NAMES[(place + way + NAMES.length) % NAMES.length];
+    part(`tab-${name}`).addEventListener('click', () => show_view(name));
+    part(`tab-${name}`).addEventListener('keydown', ({ key }) => {
+      const next = NAMES.at((place + ({ ArrowRight: 1, ArrowLeft: -1 }[key] ?? 0)) % NAMES.length);
       show_view(next);
       part(`tab-${next}`).focus();
     });

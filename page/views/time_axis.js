@@ -4,9 +4,9 @@ import { element, fill, part } from './parts.js';
 import { time_words, unit_of } from './scale.js';
 
 export class TimeAxis {
-  // `changed` is called when the axis is another one.
+  fields = [];
+
   constructor(changed) {
-    Object.assign(this, { fields: [] });
     for (const id of ['time-kind', 'time-start', 'time-step', 'time-field']) {
       part(id).addEventListener('input', () => {
         this.tell();

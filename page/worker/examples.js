@@ -1,6 +1,6 @@
 // Examples that the page makes itself, by the program's own verbs: a store of a pass, and its recording.
 
-import { run_program } from './program.js';
+import { run_program } from './machine.js';
 import { arrivals_of } from '../data/space.js';
 import { bytes_of } from '../data/text.js';
 
@@ -15,10 +15,8 @@ export function example_recording(count) {
     const battery = Math.round(is_dark_now ? 3240 - 1350 * (turn - 0.62) : 2760 + 560 * Math.min(1, turn / 0.5));
     const current = is_dark_now ? -310 + (t % 7) : 420 - Math.round(300 * turn) + (t % 5);
     const temperature = Math.round(14 + 31 * Math.sin(2 * Math.PI * (turn - 0.18)));
-    const wheel = -12000 + 133 * (t % 180);
-    const fields = [[is_dark_now ? 2 : 1, 56n], [battery, 44n], [current & 4095, 32n], [temperature & 255, 24n], [wheel & 65535, 8n], [t & 3, 0n]];
-    const word = fields.reduce((sum, [value, place]) => sum | (BigInt(value) << place), 0n);
-    new DataView(bytes.buffer).setBigUint64(8 * t, word);
+    const wheel = -12000 + 133 * (t % 180), fields = [[is_dark_now ? 2 : 1, 56n], [battery, 44n], [current & 4095, 32n], [temperature & 255, 24n], [wheel & 65535, 8n], [t & 3, 0n]];
+    new DataView(bytes.buffer).setBigUint64(8 * t, fields.reduce((sum, [value, place]) => sum | (BigInt(value) << place), 0n));
   }
   return bytes;
 }

@@ -27,8 +27,12 @@ export function take_piece({ number, piece, fault }) {
 // Reads a file, and tells after each piece how much of it is there. `is_enough` is asked then whether the rest is needed; without the rest
 // the bytes are those that were read.
 export async function* bytes_of_file(file, seen = () => {}, is_enough = () => false) {
-  const bytes = room_for(file);
-  let read = 0;
+  let bytes, read = 0;
+  try {
+    bytes = new Uint8Array(file.size);
+  } catch (_) {
+    throw new Error(`there is no memory for a file of ${file.size} bytes`);
+  }
   while (read < file.size) {
     const piece = await file.read(read, read + PIECE);
     bytes.set(piece, read);
@@ -38,12 +42,4 @@ export async function* bytes_of_file(file, seen = () => {}, is_enough = () => fa
     yield { read, size: file.size };
   }
   return bytes;
-}
-
-function room_for(file) {
-  try {
-    return new Uint8Array(file.size);
-  } catch (_) {
-    throw new Error(`there is no memory for a file of ${file.size} bytes`);
-  }
 }

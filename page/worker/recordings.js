@@ -2,7 +2,7 @@
 
 import { EXAMPLE_NAME, example_store } from './examples.js';
 import { bytes_of_file } from './files.js';
-import { run_program } from './program.js';
+import { run_program } from './machine.js';
 import { EXAMPLE_FIELDS } from '../data/example.js';
 import { fields_of } from '../data/records.js';
 import { HEAD, Report, read_report } from '../data/report.js';
@@ -57,21 +57,14 @@ function table_by(recording, bits, fields) {
 }
 
 function table_of({ table: bytes, outside }, fields, text) {
-  const table = read_table(bytes), report = text === null ? whole(table.count) : read_report(text, table.count);
+  const table = read_table(bytes), { count } = table, report = text === null ? new Report() : read_report(text, count);
   if (typeof report === 'string') return { status: 6, text: report };
+  if (text === null) report.take_end(count, count, 0);
   const { runs } = report, any = mark_outside(table, outside);
   mark_limits(table, fields);
   return { table, runs, any, outside, stretches: stretches_of(table, new Places(runs)) };
 }
 
-// The report of a recording in which no packet is missing.
-function whole(count) {
-  const report = new Report();
-  report.take_end(count, count, 0);
-  return report;
-}
-
-// The example: a recording with its report.
 function example_of_recording() {
   const { outputs } = run_program(['restore', 'in=store', 'out=recording', 'report=report', 'bits=64', 'apid=100'], { store: example_store() });
   return { made: [outputs.recording, outputs.report], name: EXAMPLE_NAME };

@@ -2,7 +2,7 @@
 
 import { EXAMPLE_NAME, example_store } from './examples.js';
 import { bytes_of_file } from './files.js';
-import { run_program } from './program.js';
+import { run_program } from './machine.js';
 import { stream_rows } from '../data/records.js';
 import { read_report, read_streams } from '../data/report.js';
 import { read_listing } from '../data/runs.js';

@@ -4,7 +4,7 @@
 
 import { PageFile, take_piece } from './files.js';
 import { forecast_job, why_job, advice_job } from './forecasts.js';
-import { begin_program, is_large, run_program } from './program.js';
+import { begin_program, is_large, run_program } from './machine.js';
 import { recording_job } from './recordings.js';
 import { store_job, streams_job } from './stores.js';
 
@@ -29,13 +29,6 @@ function memory_of(answer, found = new Set()) {
   return found;
 }
 
-function pause() {
-  return new Promise((done) => {
-    setTimeout(done, 0);
-  });
-}
-
-// Does a job, step by step, unless a later question ends it.
 async function work({ number, name, given, files }) {
   const steps = JOBS[name]({ ...given, files: files.map((file) => new PageFile(number, file)) });
   for (;;) {
@@ -46,7 +39,7 @@ async function work({ number, name, given, files }) {
       return;
     }
     postMessage({ number, told: step.value ?? {} });
-    await pause();
+    await new Promise((done) => setTimeout(done, 0)); // (the next question is heard)
     if (number !== latest) return;
   }
 }
