@@ -3,9 +3,9 @@
 receiver, FOLDER/pocket.h, and FOLDER/pocket-program.c, the program.
 
 MODULE is the module that library/retarget.py kept as the library was proved and built for x86-64 (crates/pocket_c/out/module.bc).
-page/module.py turns it to WebAssembly, Debian's wasm2c (the package wabt) turns that to C, and translate.py and joined.py that to the generated part,
-which is joined with what is written by hand: machine.c, calls.c, state.c, checked.c and the library's checked.c for the calls; machine.c, heap.c, files.c and program.c for the program.
-So the files are compiled another way: compared (.ci/one_file.py), not proved. Two runs give the same bytes.
+library/module.py turns it to WebAssembly, Debian's wasm2c (the package wabt) turns that to C, and translate.py and joined.py that to the generated part,
+which is joined with what is written by hand: machine.c, calls.c, state.c, null_checks.c and the library's checked.c for the calls; machine.c, allocator.c, files.c and program.c for the program.
+So the files are compiled another way: compared (tests/test_one_file.py), not proved. Two runs give the same bytes.
 """
 
 import os
@@ -14,12 +14,11 @@ import shutil
 import subprocess
 import sys
 import tempfile
-import zlib
 
 sys.dont_write_bytecode = True
 HERE = os.path.dirname(os.path.abspath(__file__))
 TOP = os.path.dirname(os.path.dirname(HERE))
-sys.path[:0] = [HERE, f"{TOP}/page"]
+sys.path.insert(0, f"{TOP}/library")
 import module
 import translate
 
@@ -61,7 +60,7 @@ def checked():
     """The checks of null of the library, and those of the calls that the file alone has."""
     with open(f"{TOP}/library/checked.c", encoding="utf-8") as file:
         text = file.read().replace('#define POCKET_PROVED_NAMES\n#include "pocket.h"\n', "")
-    return f"{text}\n{text_of('checked.c')}"
+    return f"{text}\n{text_of('null_checks.c')}"
 
 
 def version():
@@ -69,8 +68,8 @@ def version():
         return re.search(r'^const VERSION: &str = "pocket (.*)";$', file.read(), re.M)[1]
 
 
-def module_of(kept, exports, kit, name="code", joins=True):
-    """The module with these calls."""
+def module_of(kept, exports, kit):
+    """What wasm2c writes of the module with these calls."""
     tool = shutil.which("wasm2c")
     if not tool:
         sys.exit("library/one_file/make.py: the package wabt, which has wasm2c, is not there")
@@ -79,7 +78,7 @@ def module_of(kept, exports, kit, name="code", joins=True):
         module.make(kept, wasm, kit, exports, for_c=True)
         subprocess.run([tool, wasm, "-n", "pocket", "-o", made], check=True)
         with open(made, encoding="utf-8") as text:
-            return translate.module_of(text.read(), name, joins)
+            return text.read()
 
 
 def constants(code):
@@ -121,18 +120,16 @@ def check_stack(deepest):
 
 def calls(kept, kit):
     """The text of pocket.c."""
-    code, states = module_of(kept, SENDER + RECEIVER, kit), module_of(kept, STATES, kit, "state", joins=False)
-    if states.top != code.top or code.data and (states.heap, states.data) != (code.heap, code.data):
-        sys.exit("library/one_file/make.py: the calls and the states have other constants")
-    text = generated(code, states)
-    deepest = max(code.deepest(SENDER + RECEIVER), states.deepest(STATES))
+    text = module_of(kept, SENDER + RECEIVER + STATES, kit)
+    code, states = translate.module_of(text, "code", joins=True), translate.module_of(text, "state", joins=False)
+    deepest = code.deepest(SENDER + RECEIVER + STATES)
     check_stack(deepest)
-    numbers = {"STACK_TOP": f"{code.top}u", "HEAP_BASE": f"{states.heap}u", "CONSTANT_BYTES": len(states.data), "DEEPEST": deepest,
-               "STACK_BYTES": "POCKET_STACK_BYTES", "MODULE_SUM": f"0x{zlib.crc32(text.encode()):08X}u"}
+    numbers = {"STACK_TOP": f"{code.top}u", "HEAP_BASE": f"{code.heap}u", "CONSTANT_BYTES": len(code.data), "DEEPEST": deepest,
+               "STACK_BYTES": "POCKET_STACK_BYTES"}
     before, after = text_of("calls.c").split("/* @generated@ */\n")
     named = "".join(f"#define {name} {value}\n" for name, value in numbers.items())
     head = text_of("head.c").replace("@VERSION@", version())
-    return f"{head}\n{named}\n{constants(states)}{text_of('machine.c')}\n{before}\n{quiet(text)}\n{after}\n{text_of('state.c')}\n{checked()}"
+    return f"{head}\n{named}\n{constants(code)}{text_of('machine.c')}\n{before}\n{quiet(generated(code, states))}\n{after}\n{text_of('state.c')}\n{checked()}"
 
 
 def keys_of_verbs():
@@ -170,13 +167,13 @@ def helps():
 
 def program(kept, kit):
     """The text of pocket-program.c."""
-    code = module_of(kept, DESK, kit)
+    code = translate.module_of(module_of(kept, DESK, kit), "code", joins=True)
     numbers = {"STACK_TOP": f"{code.top}u", "HEAP_BASE": f"{code.heap}u", "CONSTANT_BYTES": len(code.data), "STACK_BYTES": f"{PROGRAM_STACK}u",
                "VERSION": f'"{version()}"'}
     named = "".join(f"#define {name} {value}\n" for name, value in numbers.items())
     text = joined([it for name, it in code.functions.items() if name in code.reached(DESK)])
     head = text_of("program_head.c").replace("@VERSION@", version())
-    before = [head, named, constants(code) + text_of("machine.c"), text_of("heap.c")]
+    before = [head, named, constants(code) + text_of("machine.c"), text_of("allocator.c")]
     return "\n".join([*before, quiet(text), helps(), text_of("files.c"), text_of("program.c")])
 
 

@@ -8,7 +8,7 @@ import operator
 from dataclasses import dataclass
 from typing import Any, Callable, Mapping, Optional, Type, TypeVar, Union, overload
 
-from .errors import BitsOutOfRange, CountOutOfRange, NoState, NotText, PocketError, Refused, RobustnessOutOfRange, TooManyWords, done
+from .errors import BitsOutOfRange, CountOutOfRange, NoState, NotText, Refused, RobustnessOutOfRange, TooManyWords, done
 from .held import Held, alone
 from .library import Finding, Tally, library
 
@@ -132,11 +132,8 @@ class _Kept(Held):
 
     @alone
     def save(self) -> bytes:
-        """Its state, from which `load` goes on: a receiver's on any processor and with any later release, a sender's, which only the library
-        made of the one C file has, with the same file."""
+        """Its state, from which `load` goes on, on any processor and with any later release."""
         most, length = library.pocket_state_bytes(self._bits(), self._kind), ctypes.c_size_t()
-        if not most:
-            raise PocketError("only the library made of the one C file has states of senders")
         state = ctypes.create_string_buffer(most)
         done(library.pocket_save(self._handle, state, most, length))
         return ctypes.string_at(state, length.value)
