@@ -9,10 +9,12 @@
 # make deb: Debian packages, in the folder build: pocket, libpocket1, libpocket-dev, python3-pocket.
 # make unproved: the program in a minute, build/unproved/pocket, without a proof; it says so on --version.
 # make page: the operator's page, page/pocket.html, one file that a browser opens from disk. It takes the toolchain, the gate's libraries
-#   (crates/*/out/rlib) and Debian's binaryen.
+#   (crates/*/out/rlib) and Debian's binaryen and esbuild.
 # make dist: the files for those who have no toolchain, in the folder DIST: pocket.c and pocket.h (the calls of a sender and a receiver, for
 #   any processor), pocket-program.c (the program), pocket.html (the page). It takes what `make page` takes, and Debian's wabt.
-# make check: tries the library from C, C++ and Python. make clean: removes what was built.
+# make quick: lays out and checks the crates that were changed since BASE=origin/main, and tries the linters and the documents; make hook: has
+#   git do so before each push.
+# make check: tests/ over the proved program and library (CONTRIBUTING.md). make clean: removes what was built.
 PREFIX = /usr/local
 LIBDIR = $(PREFIX)/lib
 ZSHDIR = $(PREFIX)/share/zsh/site-functions
@@ -103,13 +105,13 @@ deb:
 unproved:
 	python3 library/unproved.py $(BUILD)/unproved
 
-# The library's module is kept as the library is built (library/retarget.py), and turned (page/module.py).
+# The library's module is kept as the library is built (library/retarget.py), and turned (library/module.py).
 MODULE = crates/pocket_c/out/module.bc
 $(MODULE): $(wildcard crates/*/src/*.rt crates/*/src/*/*.rt) crates.txt library/retarget.py
 	python3 library/retarget.py x86_64-linux-gnu $(@D)
 
-page/out/pocket.wasm: $(MODULE) page/module.py library/retarget.py
-	python3 page/module.py $< $@
+page/out/pocket.wasm: $(MODULE) library/module.py library/retarget.py
+	python3 library/module.py $< $@
 
 page/pocket.html: page/out/pocket.wasm page/make.py page/page.html page/style.css $(wildcard page/data/*.js page/views/*.js page/worker/*.js)
 	python3 page/make.py $<
@@ -121,10 +123,20 @@ dist: $(MODULE) page/pocket.html
 	python3 library/one_file/make.py $(MODULE) $(DIST)
 	cp page/pocket.html $(DIST)/pocket.html
 
+BASE = origin/main
+CHANGED = $(sort $(shell { git diff --name-only "$$(git merge-base HEAD $(BASE))" -- crates; git ls-files -o --exclude-standard crates; } | cut -d/ -f2))
+quick:
+	for crate in $(CHANGED); do (cd crates/$$crate && rt fmt && rt check) || exit 1; done
+	cd tests && $(PYTHON) -m unittest test_lint test_documents
+
+hook:
+	printf '#!/bin/sh\nexec make -s quick\n' > "$$(git rev-parse --git-path hooks)/pre-push"
+	chmod +x "$$(git rev-parse --git-path hooks)/pre-push"
+
 check test: lib
-	python3 .ci/library.py $(dir $(PROVED)) $(PROGRAM)
+	PROGRAM=$(PROGRAM) PROVED=$(PROVED) $(PYTHON) -m unittest discover tests
 
 clean:
 	rm -rf $(BUILD) page/out page/pocket.html
 
-.PHONY: help always lib install install-module install-program tools uninstall deb unproved page dist check test clean
+.PHONY: help always lib install install-module install-program tools uninstall deb unproved page dist quick hook check test clean

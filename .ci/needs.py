@@ -18,7 +18,7 @@ PACKAGES = {
         libc6-dev-s390x-cross gcc-sparc64-linux-gnu libc6-dev-sparc64-cross gcc-multilib-sparc64-linux-gnu libc6-dev-sparc-sparc64-cross""",
     "boards": "gcc-arm-none-eabi libnewlib-arm-none-eabi gcc-riscv64-unknown-elf qemu-system-arm qemu-system-sparc qemu-system-misc",
     "many spacecraft": "redis-server python3-redis",
-    "WebAssembly": "wabt binaryen",
+    "WebAssembly": "wabt binaryen esbuild",
     "browsers": "chromium chromium-driver firefox-esr webkit2gtk-driver xvfb fonts-dejavu-core",
 }
 

@@ -1,6 +1,6 @@
 /* The calls of pocket.h for a sender and a receiver, each with its checks of null before the proved one; and what needs no handle: the
  * version, the texts of the answers, the header of a Space Packet. Written by hand: tested, not proved. The calls of a desk stand in
- * checked_desk.c, those of the one file in one_file/checked.c. */
+ * checked_desk.c, those of the one file in one_file/null_checks.c. */
 #define POCKET_PROVED_NAMES
 #include "pocket.h"
 

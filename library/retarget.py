@@ -5,14 +5,14 @@ FOLDER/libpocket_c.a.
 - x86_64-linux-gnu is what `rt lib` makes in crates/pocket_c, but `rt lib` proves the libraries below anew if no check of its own has
   kept them, and the gate keeps none of those. Here `rattle build` takes the gate's (crates/*/out/rlib), and proves the crate alone.
   It has the crate's module compiled by the clang of the folder of tools that it is given. Here that clang calls this file, which keeps
-  the module (FOLDER/module.bc), from which page/module.py makes that of the page, and calls the toolchain's own. What `rattle build` said,
+  the module (FOLDER/module.bc), from which library/module.py makes that of the page, and calls the toolchain's own. What `rattle build` said,
   whose last line tells what is proved, is FOLDER/build.log.
 - aarch64-linux-gnu is a target of the toolchain: `rattle build` proves the crate for it too, and clang gets one flag more: all accesses
   are aligned.
 - riscv64-linux-gnu is none: library/retarget.py riscv64-linux-gnu FOLDER MODULE takes a module that was kept, turns its text
   (FOLDER/turned.ll), and has the toolchain's clang compile that: its data layout, its triple, the attributes that name a processor or a
   way of the other one, the one instruction that only the other one has, and narrow results, which a caller on RISC-V takes to be
-  widened. So it is compiled another way: compared (.ci/processors.py), not proved.
+  widened. So it is compiled another way: compared (tests/test_processors.py), not proved.
 
 With POCKET_UNALIGNED=1 in the environment, accesses that are not aligned are left to the processor.
 """

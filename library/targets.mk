@@ -6,7 +6,7 @@
 # makes library/out/TARGET/libpocket.a, which is all that a program on board is linked with, but for memcpy, memmove, memset, malloc,
 # realloc and free, and with a desk strlen. It takes the gate's libraries, the toolchain's rattle on the path, and Debian's cross compiler of
 # the target. `unaligned=1` leaves accesses that are not aligned to the processor. library/retarget.py tells what is done;
-# .ci/processors.py compares.
+# tests/test_processors.py compares.
 
 TARGET ?= riscv64-linux-gnu
 CROSS_OUT := library/out/$(TARGET)$(if $(unaligned),-unaligned)

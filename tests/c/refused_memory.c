@@ -1,0 +1,202 @@
+/* Each allocation refused in turn: the opening answers it, the handle holds nothing, nothing is leaked; and no later call takes any, nor does a reset.
+ * Then each allocation of a desk, from its opening to the end of a command: the call answers it, or the command is refused with 5, or
+ * with 1 if it is what it writes that can't be kept, and nothing is kept then. A get, a name and a removal take none; a removal gives some back.
+ * Linked with --wrap=malloc,--wrap=realloc,--wrap=free. The numbers of bits are its words; it prints the bytes of each. */
+#include "pocket.h"
+#include <stdio.h>
+#include <stdlib.h>
+#include <string.h>
+
+void *__real_malloc(size_t);
+void *__real_realloc(void *, size_t);
+void __real_free(void *);
+void *__wrap_malloc(size_t);
+void *__wrap_realloc(void *, size_t);
+void __wrap_free(void *);
+
+static long calls, fails_at, held;
+static size_t bytes;
+
+void *__wrap_malloc(size_t size)
+{
+    if (++calls == fails_at)
+        return NULL;
+    held += 1;
+    bytes += size;
+    return __real_malloc(size);
+}
+
+void *__wrap_realloc(void *at, size_t size)
+{
+    if (++calls == fails_at)
+        return NULL;
+    bytes += size;
+    return __real_realloc(at, size);
+}
+
+void __wrap_free(void *at)
+{
+    held -= at != NULL;
+    __real_free(at);
+}
+
+static uint8_t input[POCKET_INPUT_BYTES(POCKET_MOST_BITS)], data[POCKET_PACKET_BYTES(POCKET_MOST_BITS)], content[sizeof input];
+static unsigned long passed, failed;
+
+static void check(bool right)
+{
+    passed += right;
+    failed += !right;
+}
+
+static pocket_status opened(pocket_handle *handle, uint32_t bits, bool sends)
+{
+    calls = 0, bytes = 0;
+    return sends ? pocket_sender_open(handle, bits, NULL, 0) : pocket_receiver_open(handle, bits);
+}
+
+/* Opens with each allocation refused in turn, and at last with none. Gives the bytes taken. */
+static size_t open_at_last(pocket_handle *handle, uint32_t bits, bool sends)
+{
+    pocket_status status;
+
+    for (fails_at = 1;; fails_at += 1) {
+        status = opened(handle, bits, sends);
+        if (calls < fails_at)
+            break;
+        check(status == POCKET_NO_MEMORY && handle->at == NULL && handle->state == 0 && held == 0);
+    }
+    check(status == POCKET_DONE && fails_at > 1);
+    return bytes;
+}
+
+static bool same_finding(const pocket_finding *one, const pocket_finding *other)
+{
+    return one->number == other->number && one->first_lost == other->first_lost && one->lost == other->lost && one->kind == other->kind &&
+           one->value == other->value && one->mask_alone == other->mask_alone;
+}
+
+/* After a reset both ends are as newly opened ones, packet for packet and finding for finding, and no memory was taken for it. */
+static void again(pocket_handle *sender, pocket_handle *receiver, uint32_t bits)
+{
+    static uint8_t other_data[sizeof data], other_content[sizeof content];
+    pocket_handle new_sender = POCKET_NOTHING, new_receiver = POCKET_NOTHING;
+    const size_t bytes_of = POCKET_INPUT_BYTES(bits);
+    long taken;
+    uint32_t t;
+
+    fails_at = 0;
+    input[0] = 0x80;
+    check(pocket_sender_open(&new_sender, bits, input, bytes_of) == POCKET_DONE && pocket_receiver_open(&new_receiver, bits) == POCKET_DONE);
+    taken = held, calls = 0;
+    check(pocket_sender_reset(sender, input, bytes_of) == POCKET_DONE && pocket_receiver_reset(receiver) == POCKET_DONE);
+    for (t = 0; t < 100; t++) {
+        size_t length = 0, other_length = 1;
+        uint8_t level = 0, other_level = 1;
+        pocket_finding finding, other_finding;
+
+        input[0] = (uint8_t)(t * t << 7);
+        check(pocket_send(sender, input, bytes_of, t % 7 == 0, t % 5 == 0, t % 9 == 0, (uint8_t)(t % 3), data, sizeof data, &length, &level) == POCKET_DONE);
+        check(pocket_send(&new_sender, input, bytes_of, t % 7 == 0, t % 5 == 0, t % 9 == 0, (uint8_t)(t % 3), other_data, sizeof other_data,
+                          &other_length, &other_level) == POCKET_DONE);
+        check(length == other_length && level == other_level && memcmp(data, other_data, length) == 0);
+        if (t % 4 == 0)
+            continue;
+        check(pocket_receive(receiver, (uint16_t)t, data, length, content, sizeof content, &finding) == POCKET_DONE);
+        check(pocket_receive(&new_receiver, (uint16_t)t, data, length, other_content, sizeof other_content, &other_finding) == POCKET_DONE);
+        check(same_finding(&finding, &other_finding) && (finding.kind != POCKET_WRITTEN || memcmp(content, other_content, bytes_of) == 0));
+    }
+    check(calls == 0 && held == taken);
+    check(pocket_close(&new_sender) == POCKET_DONE && pocket_close(&new_receiver) == POCKET_DONE);
+}
+
+/* Opens a desk and runs a command at it, to the first answer that is not POCKET_DONE. */
+static pocket_status command(pocket_handle *desk, uint8_t *exit_number)
+{
+    static const char *const words[] = {"compress", "in=x", "out=s", "bits=8", "apid=100", "robust=1"};
+    static const uint8_t inputs[4] = {0xB0, 0xB1, 0xB1, 0xB3};
+    char text[POCKET_TEXT_BYTES];
+    size_t length, i;
+    pocket_status status = pocket_desk_open(desk);
+
+    if (status == POCKET_DONE)
+        status = pocket_put(desk, "x", inputs, sizeof inputs);
+    for (i = 0; i < sizeof words / sizeof *words && status == POCKET_DONE; i++)
+        status = pocket_word(desk, words[i]);
+    if (status != POCKET_DONE)
+        return status;
+    status = pocket_run(desk, text, sizeof text, &length, exit_number);
+    if (*exit_number != 0) {
+        const char *refusal = *exit_number == 1 ? "writing failed" : "out of memory";
+        check((*exit_number == 1 || *exit_number == 5) && length == strlen(refusal) && memcmp(text, refusal, length) == 0);
+    }
+    return status;
+}
+
+static void at_desk(void)
+{
+    pocket_handle desk = POCKET_NOTHING;
+    long taken, kept;
+
+    for (held = 0, fails_at = 1;; fails_at += 1) {
+        uint8_t exit_number = 0, store[64];
+        size_t length = 0;
+        pocket_status status;
+
+        calls = 0;
+        status = command(&desk, &exit_number);
+        if (calls < fails_at) {
+            check(status == POCKET_DONE && exit_number == 0 && fails_at > 1);
+            taken = calls;
+            check(pocket_get(&desk, "s", store, sizeof store, &length) == POCKET_DONE && length == 37 && calls == taken);
+            kept = held;
+            check(pocket_name_from(&desk, "t", 1, (char *)store, sizeof store, &length) == POCKET_DONE && length == 1 && calls == taken);
+            check(pocket_remove(&desk, "s") == POCKET_DONE && calls == taken && held < kept);
+            break;
+        }
+        check(status == POCKET_NO_MEMORY || (status == POCKET_DONE && exit_number != 0));
+        if (status == POCKET_DONE)
+            check(pocket_get(&desk, "s", store, sizeof store, &length) == POCKET_DONE && length == 0);
+        check((pocket_close(&desk) == POCKET_IS_CLOSED) == (fails_at == 1) && held == 0);
+    }
+    check(pocket_close(&desk) == POCKET_DONE && held == 0);
+    printf("a desk: %ld allocations\n", calls);
+}
+
+int main(int count, char **words)
+{
+    int i;
+
+    for (i = 1; i < count; i++) {
+        uint32_t bits = (uint32_t)strtoul(words[i], NULL, 10), t;
+        pocket_handle sender = POCKET_NOTHING, receiver = POCKET_NOTHING;
+        size_t length, sends, receives;
+        long before, of_sender;
+        uint8_t level;
+        pocket_finding finding;
+        pocket_tally tally;
+
+        held = 0;
+        sends = open_at_last(&sender, bits, true);
+        of_sender = held, held = 0;
+        receives = open_at_last(&receiver, bits, false);
+        calls = 0, before = held;
+        for (t = 0; t < 200; t++) {
+            input[0] = (uint8_t)(t << 7);
+            check(pocket_send(&sender, input, POCKET_INPUT_BYTES(bits), t % 7 == 0, t % 5 == 0, t % 9 == 0, (uint8_t)(t % 8), data,
+                              sizeof data, &length, &level) == POCKET_DONE);
+            check(pocket_receive(&receiver, (uint16_t)t, data, length, content, sizeof content, &finding) == POCKET_DONE);
+            check(finding.kind == POCKET_WRITTEN && content[0] == input[0]);
+        }
+        check(pocket_counts(&receiver, &tally) == POCKET_DONE && tally.packets == 200 && tally.written == 200);
+        check(calls == 0 && held == before);
+        again(&sender, &receiver, bits);
+        check(held == before);
+        check(pocket_close(&receiver) == POCKET_DONE && held == 0);
+        check(pocket_close(&sender) == POCKET_DONE && held == -of_sender);
+        printf("%u bits: a sender %zu bytes, a receiver %zu\n", (unsigned)bits, sends, receives);
+    }
+    at_desk();
+    printf("%lu passed, %lu failed\n", passed, failed);
+    return failed != 0;
+}

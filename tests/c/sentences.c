@@ -1,0 +1,299 @@
+/* What pocket.h says of numbers, counts and restarts, of versions, texts and headers: each sentence is tried, from C. */
+#include "pocket.h"
+#include <stdio.h>
+#include <string.h>
+
+enum { BITS = 64, BYTES = BITS / 8, ROOM = POCKET_PACKET_BYTES(BITS), MANY = 100, APID = 100 };
+
+static unsigned long passed, failed;
+static uint32_t seed = 1;
+
+static void check(bool held, const char *what)
+{
+    if (held)
+        passed += 1;
+    else {
+        failed += 1;
+        printf("sentences: %s\n", what);
+    }
+}
+
+static uint32_t drawn(uint32_t below)
+{
+    seed = seed * 1664525u + 1013904223u;
+    return (uint32_t)(((uint64_t)seed * below) >> 32);
+}
+
+/* Inputs of 64 bits in which one of eight bits turns. */
+static uint8_t input[BYTES];
+
+static void begin(uint32_t number)
+{
+    unsigned i;
+
+    seed = number;
+    for (i = 0; i < BYTES; i++)
+        input[i] = (uint8_t)drawn(256);
+}
+
+static void move(void)
+{
+    input[3] ^= (uint8_t)(1u << drawn(8));
+}
+
+typedef struct packet {
+    uint8_t data[ROOM], input[BYTES], level;
+    size_t length;
+} packet;
+
+static packet made(pocket_handle *sender, uint8_t robustness)
+{
+    packet one;
+
+    move();
+    memcpy(one.input, input, BYTES);
+    check(pocket_send(sender, input, BYTES, false, false, false, robustness, one.data, ROOM, &one.length, &one.level) == POCKET_DONE, "a packet is sent");
+    return one;
+}
+
+/* What is found of an arrival, and whether its content is the input. */
+static pocket_finding found(pocket_handle *receiver, uint64_t number, const packet *one, bool *is_right)
+{
+    uint8_t content[BYTES];
+    pocket_finding finding;
+
+    check(pocket_receive(receiver, (uint16_t)(number % 16384u), one->data, one->length, content, BYTES, &finding) == POCKET_DONE, "a packet is received");
+    *is_right = finding.kind == POCKET_WRITTEN && memcmp(content, one->input, BYTES) == 0;
+    return finding;
+}
+
+static void open_both(pocket_handle *sender, pocket_handle *receiver)
+{
+    check(pocket_sender_open(sender, BITS, NULL, 0) == POCKET_DONE && pocket_receiver_open(receiver, BITS) == POCKET_DONE, "both ends are opened");
+}
+
+static void close_both(pocket_handle *sender, pocket_handle *receiver)
+{
+    check(pocket_close(sender) == POCKET_DONE && pocket_close(receiver) == POCKET_DONE, "both ends are closed");
+}
+
+static void texts(void)
+{
+    const char *none = pocket_status_text(1000);
+    uint32_t one, other, known = 0;
+
+    check(strcmp(pocket_version(), POCKET_VERSION) == 0, "the version of the library is that of its header");
+    for (one = 0; one < 256; one++) {
+        known += pocket_status_text(one) != none;
+        for (other = 0; other < one; other++)
+            check(pocket_status_text(one) == none || strcmp(pocket_status_text(one), pocket_status_text(other)) != 0, "each answer has a text of its own");
+    }
+    check(known == 24, "each answer has a text");
+}
+
+static void headers(void)
+{
+    static const uint8_t first[6] = {0x00, 0x64, 0xC0, 0x00, 0x00, 0x03}, last[6] = {0x07, 0xFE, 0xFF, 0xFF, 0xFF, 0xFF};
+    uint8_t header[6], other[6];
+
+    check(pocket_header(100, 0, 4, header) == POCKET_DONE && memcmp(header, first, 6) == 0, "the header of docs/FORMATS.md");
+    check(pocket_header(100, 16384, 4, header) == POCKET_DONE && memcmp(header, first, 6) == 0, "packet 16,384 has the count 0");
+    check(pocket_header(2046, 16383 + 16384 * 5000ull, 65536, header) == POCKET_DONE && memcmp(header, last, 6) == 0, "the greatest numbers");
+    memcpy(other, header, 6);
+    check(pocket_header(2047, 0, 4, header) == POCKET_APID && pocket_header(65535, 0, 0, header) == POCKET_APID, "no packet has this APID");
+    check(pocket_header(100, 0, 0, header) == POCKET_NO_DATA, "a packet has a byte");
+    check(pocket_header(100, 0, 65537, header) == POCKET_TOO_LONG, "a packet has 65,536 bytes at most");
+    check(pocket_header(100, 0, 4, NULL) == POCKET_NULL, "a header that is null");
+    check(memcmp(header, other, 6) == 0, "a refused header is not written");
+}
+
+static void numbers(void)
+{
+    pocket_handle sender = POCKET_NOTHING, receiver = POCKET_NOTHING;
+    pocket_finding finding;
+    pocket_tally tally;
+    packet one, nothing;
+    uint64_t sent;
+    uint32_t bits, t;
+    bool is_right;
+
+    begin(1);
+    open_both(&sender, &receiver);
+    one = made(&sender, 1);
+    finding = found(&receiver, 700, &one, &is_right);
+    check(finding.number == 700 && finding.first_lost == 0 && finding.lost == 700 && is_right, "the first arrival's count is its number");
+    finding = found(&receiver, 700 + 16384, &one, &is_right);
+    check(finding.kind == POCKET_REPEAT && finding.number == 700, "a gap of 16,384 looks like a repeat");
+    nothing = one;
+    nothing.length = 0;
+    finding = found(&receiver, 701, &nothing, &is_right);
+    check(finding.kind == POCKET_EARLY && finding.value == 0 && finding.number == 701 && finding.lost == 0, "data of no byte are an arrival");
+    finding = found(&receiver, 5, &one, &is_right);
+    check(finding.number == 16384 + 5 && finding.first_lost == 702 && finding.lost == 16384 + 5 - 702, "a later one has the next greater number of its count");
+    for (t = 0; t < MANY; t++) {
+        check(pocket_sent(&sender, &sent) == POCKET_DONE && sent == t + 1, "a sender tells the number of its next packet");
+        one = made(&sender, 1);
+        pocket_counts(&receiver, &tally);
+        finding = found(&receiver, tally.written + tally.listed, &one, &is_right);
+        check(finding.lost == 0 && finding.number == tally.written + tally.listed, "the next number in order is written + listed");
+        if (drawn(3) == 0)
+            found(&receiver, finding.number + drawn(5), &one, &is_right);
+    }
+    bits = 0;
+    check(pocket_bits(&sender, &bits) == POCKET_DONE && bits == BITS, "the bits of a sender");
+    bits = 0;
+    check(pocket_bits(&receiver, &bits) == POCKET_DONE && bits == BITS, "the bits of a receiver");
+    sent = 5;
+    check(pocket_sent(&receiver, &sent) == POCKET_OTHER_KIND && sent == 5, "a receiver has sent nothing");
+    close_both(&sender, &receiver);
+    check(pocket_bits(&sender, &bits) == POCKET_IS_CLOSED && bits == BITS && pocket_sent(&sender, &sent) == POCKET_IS_CLOSED && sent == 5, "a closed sender");
+    check(pocket_bits(NULL, &bits) == POCKET_NULL && pocket_sent(NULL, &sent) == POCKET_NULL, "null has no bits");
+    check(pocket_bits(&sender, NULL) == POCKET_NULL && pocket_sent(&sender, NULL) == POCKET_NULL, "bits to null");
+    check(pocket_desk_open(&sender) == POCKET_DONE && pocket_bits(&sender, &bits) == POCKET_OTHER_KIND && pocket_sent(&sender, &sent) == POCKET_OTHER_KIND, "a desk has no bits");
+    pocket_close(&sender);
+}
+
+static void command(pocket_handle *desk, const char *words)
+{
+    char word[64], text[POCKET_TEXT_BYTES];
+    uint8_t exit_number = 9;
+    size_t length;
+    int next;
+
+    for (; sscanf(words, "%63s%n", word, &next) == 1; words += next)
+        check(pocket_word(desk, word) == POCKET_DONE, words);
+    check(pocket_run(desk, text, sizeof text, &length, &exit_number) == POCKET_DONE && exit_number == 0, "a command is done");
+}
+
+/* A hundred packets of which two change places: by a receiver, and by the verb late. */
+static void out_of_order(void)
+{
+    pocket_handle sender = POCKET_NOTHING, receiver = POCKET_NOTHING, desk = POCKET_NOTHING;
+    static packet packets[MANY];
+    static uint8_t sent[MANY * BYTES], store[MANY * (6 + ROOM)], back[sizeof sent];
+    size_t at = 0, length;
+    uint64_t lost = 0;
+    unsigned t, unwritten = 0;
+    bool is_right;
+
+    begin(7);
+    open_both(&sender, &receiver);
+    for (t = 0; t < MANY; t++) {
+        packets[t] = made(&sender, 1);
+        memcpy(sent + t * BYTES, input, BYTES);
+    }
+    for (t = 0; t < MANY; t++) {
+        unsigned number = t == 10 ? 11 : t == 11 ? 10 : t;
+        lost += found(&receiver, number, &packets[number], &is_right).lost;
+        unwritten += !is_right;
+        check(pocket_header(APID, number, packets[number].length, store + at) == POCKET_DONE, "a header");
+        memcpy(store + at + 6, packets[number].data, packets[number].length);
+        at += 6 + packets[number].length;
+    }
+    check(lost == 1 + 16382 + 1 && unwritten > 1, "two packets that change places are told as 16,382 lost, and others are unwritten");
+    check(pocket_desk_open(&desk) == POCKET_DONE && pocket_put(&desk, "s", store, at) == POCKET_DONE, "a desk");
+    command(&desk, "late in=s out=b report=r bits=64 apid=100 window=4");
+    check(pocket_get(&desk, "b", back, sizeof back, &length) == POCKET_DONE && length == sizeof sent && memcmp(back, sent, length) == 0, "late writes them all");
+    pocket_close(&desk);
+    close_both(&sender, &receiver);
+}
+
+/* How many of fifty packets after a restart are right, wrong in their content, and unwritten, if the first ones are lost. */
+typedef struct fates {
+    unsigned right, wrong, unwritten;
+} fates;
+
+static fates restarted(uint32_t number, uint8_t robustness, unsigned left_out, unsigned lost, bool anew)
+{
+    pocket_handle sender = POCKET_NOTHING, receiver = POCKET_NOTHING;
+    fates told = {0, 0, 0};
+    uint64_t next;
+    unsigned t;
+    bool is_right;
+
+    begin(number);
+    open_both(&sender, &receiver);
+    for (next = 0; next < MANY; next++) {
+        packet one = made(&sender, robustness);
+        found(&receiver, next, &one, &is_right);
+        check(is_right, "a packet before a restart");
+    }
+    begin(number + 1000);
+    check(pocket_close(&sender) == POCKET_DONE && pocket_sender_open(&sender, BITS, NULL, 0) == POCKET_DONE, "a restart");
+    if (anew)
+        check(pocket_receiver_reset(&receiver) == POCKET_DONE, "a receiver is reset");
+    next += left_out;
+    for (t = 0; t < 50; t++, next++) {
+        packet one = made(&sender, robustness);
+        pocket_finding finding;
+        if (t < lost)
+            continue;
+        finding = found(&receiver, next, &one, &is_right);
+        told.right += is_right;
+        told.wrong += finding.kind == POCKET_WRITTEN && !is_right;
+        told.unwritten += finding.kind != POCKET_WRITTEN;
+    }
+    close_both(&sender, &receiver);
+    return told;
+}
+
+static void restarts(void)
+{
+    unsigned number, robustness, wrong = 0, unwritten = 0;
+
+    for (number = 0; number < 20; number++)
+        for (robustness = 0; robustness <= POCKET_MOST_ROBUSTNESS; robustness++) {
+            fates told = restarted(number, (uint8_t)robustness, 0, 0, false);
+            wrong += told.wrong;
+            unwritten += told.unwritten;
+            check(restarted(number, (uint8_t)robustness, 16, 0, false).right == 50, "after 16 counts that are left out all packets are right");
+            check(restarted(number, (uint8_t)robustness, 16, robustness, false).right == 50 - robustness, "as many of the first may be lost as the robustness says");
+            told = restarted(number, (uint8_t)robustness, 16, robustness + 1, false);
+            check(told.wrong == 0, "one more is lost, and no content is wrong");
+            check(restarted(number, (uint8_t)robustness, 0, 0, true).right == 50, "a receiver that was reset writes all packets");
+        }
+    check(unwritten > 0, "with the counts going on packets are refused");
+    check(wrong > 0, "with the counts going on contents are given that were not sent");
+}
+
+/* Each flag by the letter that the program has for it, which is that of the standard. */
+static void letters(void)
+{
+    static const char *const plans[3] = {"5,5,1,p\n", "5,5,1,f\n", "5,5,1,r\n"};
+    unsigned flag, t;
+
+    for (flag = 0; flag < 3; flag++) {
+        pocket_handle sender = POCKET_NOTHING, desk = POCKET_NOTHING;
+        static uint8_t inputs[10 * BYTES], store[10 * (6 + ROOM)], wanted[sizeof store];
+        size_t at = 0, length;
+        uint8_t level;
+
+        begin(3);
+        pocket_sender_open(&sender, BITS, NULL, 0);
+        for (t = 0; t < 10; t++) {
+            move();
+            memcpy(inputs + t * BYTES, input, BYTES);
+            check(pocket_send(&sender, input, BYTES, flag == 0 && t == 5, flag == 1 && t == 5, flag == 2 && t == 5, 1, wanted + at + 6, ROOM, &length, &level) == POCKET_DONE, "a flag");
+            check(pocket_header(APID, t, length, wanted + at) == POCKET_DONE, "a header");
+            at += 6 + length;
+        }
+        check(pocket_desk_open(&desk) == POCKET_DONE && pocket_put(&desk, "x", inputs, sizeof inputs) == POCKET_DONE, "a desk");
+        check(pocket_put(&desk, "p", (const uint8_t *)plans[flag], strlen(plans[flag])) == POCKET_DONE, "a schedule");
+        command(&desk, "compress in=x out=s bits=64 apid=100 robust=1 plan=p");
+        check(pocket_get(&desk, "s", store, sizeof store, &length) == POCKET_DONE && length == at && memcmp(store, wanted, at) == 0, plans[flag]);
+        pocket_close(&desk);
+        pocket_close(&sender);
+    }
+}
+
+int main(void)
+{
+    texts();
+    headers();
+    numbers();
+    out_of_order();
+    restarts();
+    letters();
+    printf("%lu passed, %lu failed\n", passed, failed);
+    return failed != 0;
+}

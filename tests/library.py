@@ -1,0 +1,72 @@
+"""The fixture of tests that call the library: it is built once of the proved one, for C and for the Python module."""
+
+import atexit
+import functools
+import os
+import shutil
+import subprocess
+import sys
+import tempfile
+import unittest
+import warnings
+from unittest import mock
+
+from program import PROGRAM, TOP, Folder
+
+# What is tried: the proved library, or another one that the environment names; POCKET_LIBRARY there names another one for Python alone.
+PROVED = os.path.abspath(os.environ.get("PROVED", os.path.join(TOP, "crates", "pocket_c", "out", "libpocket_c.a")))
+MODULE = os.path.join(TOP, "library", "python")
+STRICT = ["-Wall", "-Wextra", "-pedantic", "-Werror"]
+sys.path.insert(0, MODULE)
+
+
+def run(*words, given=b"", cwd=TOP, timeout=600):
+    """What a command writes; one that does not end with 0 is an error."""
+    found = subprocess.run(words, input=given, capture_output=True, cwd=cwd, timeout=timeout)
+    if found.returncode:
+        raise RuntimeError(f"{words[0]} ended with {found.returncode}: {(found.stdout + found.stderr)[-400:]!r}")
+    return found.stdout
+
+
+@functools.cache
+def built():
+    """A folder with the library, for all tests of it."""
+    room = Folder(tempfile.mkdtemp(prefix="pocket-library-"))
+    atexit.register(shutil.rmtree, room.folder)
+    if "POCKET_LIBRARY" not in os.environ:
+        os.stat(PROVED)  # (else make would prove it)
+        run("make", "-s", "lib", f"BUILD={room.folder}", f"PROVED={PROVED}")
+    return room
+
+
+class LibraryTest(unittest.TestCase):
+    """Tests of the library and of the Python module, which load it and find the program."""
+
+    @classmethod
+    def setUpClass(cls):
+        cls.room = built()
+        # (a tool leaves it to the end of its process to close what it was refused)
+        cls.enterClassContext(warnings.catch_warnings(action="ignore", category=ResourceWarning))
+        cls.enterClassContext(mock.patch.dict(os.environ, {
+            "PATH": os.path.dirname(PROGRAM) + os.pathsep + os.environ["PATH"], "PYTHONPATH": MODULE, "PYTHONDONTWRITEBYTECODE": "1",
+            "POCKET_LIBRARY": os.environ.get("POCKET_LIBRARY", cls.room.at("libpocket.so"))}))
+
+    def need(self, *commands):
+        """Skips the test, or the row, if a command isn't there."""
+        missing = [command for command in commands if not shutil.which(command)]
+        if missing:
+            self.skipTest(f"{', '.join(missing)} is not there")
+
+    def make(self, *words):
+        return run("make", "-s", *words, f"BUILD={self.room.folder}", f"PROVED={PROVED}")
+
+    def compiled(self, source, name, *flags, compiler="gcc", standard=("-std=c99",)):
+        """A program over the library: one of tests/c, or another one."""
+        self.need(compiler)
+        own = os.path.join(TOP, "tests", "c", source)
+        run(compiler, *standard, *STRICT, *flags, "-I" + os.path.join(TOP, "library"), own, "-x", "none", self.room.at("libpocket.a"), "-o", self.room.at(name))
+        return self.room.at(name)
+
+    def passes(self, *words):
+        """Runs a program of tests, which has to have some and to pass all."""
+        self.assertRegex(run(*words), rb"(?m)^[1-9]\d* passed, 0 failed$")

@@ -1,0 +1,363 @@
+"""The one C file of the library beside the proved library of x86-64, on this processor and on others, byte for byte.
+
+`make dist` makes the files anew; if dist/ is committed, it has to be the same. Then tests/c/driver.c runs over pocket.c, as it runs over the
+proved library: on this processor, on others under qemu-user, and on a Cortex-M3, LEON3 and a RISC-V of 32 bits without an operating system,
+with static memory. What is printed has to be the same, states too, and each goes on from those of the library. tests/c/one_file.c tries what the file alone has, and upset.c what it does if a bit of its memory is
+turned. Two builds in which the order of bytes is wrong with the big end first have to fail. The program of the file does the rows of the
+program's tables as the proved one does: all but those of --version and of commands that are refused after they wrote something, which leaves a
+part there, and nothing here."""
+
+import atexit
+import concurrent.futures
+import functools
+import os
+import random
+import shutil
+import subprocess
+import sys
+import tempfile
+import unittest
+
+from driver import CASES, HEAP, compile_driver, differing, long_data, ran, random_cases, states, worked, wrong_lines
+from library import PROVED, run
+from program import PROGRAM, TOP, Folder, ProgramTest
+from rows import DATA, TEXTS, VERBS, WORDS
+from test_files import FILES
+
+DIST = f"{TOP}/dist"
+MADE = ["pocket.c", "pocket.h", "pocket-program.c", "pocket.html"]
+STRICT = "-std=c99 -Wall -Wextra -pedantic -Werror".split()
+DRIVER = f"{TOP}/tests/c/driver.c"
+OWN = f"{TOP}/tests/c/one_file.c"
+BOARD, LEON3, RISCV32 = (f"{TOP}/library/examples/{name}" for name in ("cortex-m", "leon3", "riscv32"))
+QEMU_BOARD = "qemu-system-arm -M mps2-an385 -display none -serial none -monitor none -semihosting-config enable=on,target=native -kernel".split()
+# A machine without an operating system: QEMU's loader puts what the driver reads into its memory (library/examples/leon3/board.h).
+LOADER = "-display none -monitor none -serial stdio -device loader,file=INPUT,addr=0x{}000000,force-raw=on -device loader,addr=0x{}FFFFFC,data=LENGTH,data-len=4 -kernel"
+QEMU_LEON3 = f"qemu-system-sparc -M leon3_generic {LOADER.format(42, 41)}".split()
+QEMU_RISCV32 = f"qemu-system-riscv32 -M virt -bios none {LOADER.format(82, 81)}".split()
+MACHINE = ["-Os", "-ffreestanding", "-nostdlib", "-DPOCKET_NO_HEAP", "-DPOCKET_NO_LIBC", "-DPOCKET_BARE", "-DDRIVER_ROOM=(1<<17)", "-I", LEON3,
+           "-I", f"{TOP}/tests/c", f"{LEON3}/helpers.c", f"{TOP}/tests/c/bare.c"]
+SANITIZERS = ["-fsanitize=address,undefined", "-fno-sanitize-recover=all"]
+VALGRIND = ["valgrind", "-q", "--error-exitcode=9", "--leak-check=full"]
+# What the driver is compiled by, with which flags, and what runs it.
+TARGETS = {
+    "x86-64, gcc": ("gcc", ["-O2"], []),
+    "x86-64, clang": ("clang", ["-O1"], []),
+    "x86-64, unchecked": ("gcc", ["-O1", "-DPOCKET_UNCHECKED"], []),
+    "x86-64, freestanding": ("gcc", ["-O2", "-ffreestanding", "-DPOCKET_NO_LIBC"], []),
+    "x86-64, the sanitizers": ("gcc", ["-O1", "-g", *SANITIZERS], []),
+    "i386": ("i686-linux-gnu-gcc", ["-Os", "-static"], ["qemu-i386"]),
+    "armhf": ("arm-linux-gnueabihf-gcc", ["-Os", "-static"], ["qemu-arm"]),
+    "powerpc": ("powerpc-linux-gnu-gcc", ["-Os", "-static"], ["qemu-ppc"]),
+    "s390x": ("s390x-linux-gnu-gcc", ["-Os", "-static"], ["qemu-s390x"]),
+    "sparc64": ("sparc64-linux-gnu-gcc", ["-Os", "-static"], ["qemu-sparc64"]),
+    "sparc, by the instructions of LEON3": ("sparc64-linux-gnu-gcc", ["-Os", "-static", "-m32", "-mcpu=leon3"], ["qemu-sparc32plus"]),
+    "riscv64": ("riscv64-linux-gnu-gcc", ["-Os", "-static"], ["qemu-riscv64"]),
+    "aarch64": ("aarch64-linux-gnu-gcc", ["-Os", "-static"], ["qemu-aarch64"]),
+    "Cortex-M3": ("arm-none-eabi-gcc", ["-Os", "-Wno-format", "-mcpu=cortex-m3", "-mthumb", "--specs=rdimon.specs", "-nostartfiles",
+                                        "-DDRIVER_ROOM=(1<<17)", "-DPOCKET_NO_HEAP", "-Wl,--wrap=main", "-T", f"{BOARD}/link.ld",
+                                        f"{BOARD}/start.c", f"{TOP}/tests/c/board.c"], QEMU_BOARD),
+    "LEON3, a machine": ("sparc64-linux-gnu-gcc", ["-m32", "-mcpu=leon3", "-fno-pic", "-fno-pie", "-static", "-no-pie", "-z", "noexecstack",
+                                                   *MACHINE, "-T", f"{LEON3}/link.ld", f"{LEON3}/start.S", f"{LEON3}/board.c"], QEMU_LEON3),
+    "RISC-V of 32 bits, a machine": ("riscv64-unknown-elf-gcc", ["-march=rv32imac", "-mabi=ilp32", "-mcmodel=medany", *MACHINE, "-T", f"{RISCV32}/link.ld",
+                                                                 f"{RISCV32}/start.S", f"{RISCV32}/board.c"], QEMU_RISCV32),
+}
+# What the file asks for: of the C library, and of the compiler's own functions on a processor without an operating system.
+LIBC = {"memcpy", "memmove", "memset"}
+BARE = {
+    "Cortex-M3": (["arm-none-eabi-gcc", "-mcpu=cortex-m3", "-mthumb"], {"__ctzdi2"}),
+    "LEON3": (["sparc64-linux-gnu-gcc", "-m32", "-mcpu=leon3"],
+              {"__ashldi3", "__lshrdi3", "__bswapsi2", "__bswapdi2", "__clzsi2", "__clzdi2", "__ctzsi2", "__ctzdi2"}),
+    "RISC-V of 32 bits": (["riscv64-unknown-elf-gcc", "-march=rv32imac", "-mabi=ilp32"],
+                          {"__ashldi3", "__lshrdi3", "__bswapdi2", "__bswapsi2", "__clzsi2", "__clzdi2", "__ctzsi2", "__ctzdi2"}),
+    "RISC-V of 64 bits": (["riscv64-linux-gnu-gcc"], {"__bswapsi2", "__bswapdi2", "__clzdi2", "__ctzdi2"}),
+    "x86-64": (["gcc"], set()),
+}
+# Builds in which the big end is wrong: a text of the file, and what stands in its place.
+BACKWARDS = "m + last + SLACK - ({} - BASE) - count"
+WRONG = {"memory.copy backwards, with the big end first": ("memmove(out, place(from), count);",
+                                                           f"memmove(out == place(to) ? {BACKWARDS.format('to')} : out, {BACKWARDS.format('from')}, count);"),
+         "words in the order of the processor": ("__builtin_bswap##bits(value)", "(value)")}
+
+
+def need(*programs):
+    missing = [it for it in programs if not shutil.which(it)]
+    if missing:
+        raise unittest.SkipTest(f"{', '.join(missing)} is not there")
+
+
+class Room(Folder):
+    """The folder of a run, with the files made anew, and what the proved library prints of each test: the lines of one run after the other."""
+
+    def __init__(self, folder):
+        super().__init__(folder)
+        self.made = self.at("dist") if all(map(shutil.which, ("wasm2c", "wasm-opt", "esbuild"))) else DIST
+        if self.made != DIST:
+            run("make", "-s", "dist", f"DIST={self.made}", timeout=1800)
+        draw, _, lines = random_cases()
+        self.tests = {"the worked inputs": worked(), "wrong arguments": wrong_lines(), f"{CASES} random cases": (lines, None),
+                      "more data than a packet has": (long_data(draw), None)}
+        native = self.at("native")
+        compile_driver("gcc", [PROVED, HEAP], native)
+        self.wanted = {name: ran([native], lines) for name, (lines, _) in self.tests.items()}
+        whole, parts = states(random.Random(68))
+        self.tests["states"] = whole, None
+        self.wanted["states"] = ran([native], whole)
+        resumed, self.wanted["states that go on"] = parts(self.wanted["states"])
+        self.tests["states that go on"] = resumed, None
+
+    def driver(self, name, made):
+        """The driver of a target over a pocket.c."""
+        compiler, flags, emulator = TARGETS[name]
+        need(compiler, *emulator[:1])
+        to = self.at(name.replace(", ", "-").replace(" ", "-"))
+        warned = ["-std=gnu99" if name == "Cortex-M3" else "-std=c99", "-Wall", "-Wextra", "-Werror"]
+        run(compiler, *warned, "-DPOCKET_ONE_FILE", *flags, "-I", made, "-o", to, DRIVER, f"{made}/pocket.c")
+        return [*emulator, to]
+
+
+def over(words, path):
+    """A command for a machine, over what a file has."""
+    return [word.replace("INPUT", path).replace("LENGTH", str(os.path.getsize(path))) for word in words]
+
+
+def printed(words, lines):
+    text = "".join(line + "\n" for line in lines).encode()
+    if words[:len(QEMU_LEON3)] != QEMU_LEON3 and words[:len(QEMU_RISCV32)] != QEMU_RISCV32:
+        return run(*words, given=text).decode().splitlines()
+    with tempfile.NamedTemporaryFile(prefix="pocket-lines-") as file:
+        file.write(text)
+        file.flush()
+        return run(*over(words, file.name)).decode().splitlines()
+
+
+def compares(room, name):
+    """How a target's driver prints something else than the library, or None. All is one run."""
+    words = room.driver(name, room.made)
+    tests = [(test, lines, room.wanted[test]) for test, (lines, _) in room.tests.items()]
+    found = printed(words, [line for _, lines, _ in tests for line in lines])
+    for test, _, wanted in tests:
+        fault = differing(found[:len(wanted)], wanted)
+        if fault:
+            return f"{test}: {fault}"
+        found = found[len(wanted):]
+    return f"{len(found)} lines too many" if found else None
+
+
+def same_as_committed(room):
+    """Whether dist/ has what `make dist` makes."""
+    if not os.path.isdir(DIST):
+        raise unittest.SkipTest("dist/, which is made before a hand-in, is not there")
+    other = [name for name in MADE if not os.path.exists(f"{DIST}/{name}") or not same(f"{DIST}/{name}", os.path.join(room.made, name))]
+    return f"{other} are others than the sources make: make dist" if other else None
+
+
+def same(one, other):
+    with open(one, "rb") as first, open(other, "rb") as second:
+        return first.read() == second.read()
+
+
+def symbols(compiler, flags, made, to):
+    """The names that an object of the file asks for, and those of its calls."""
+    run(*compiler, *STRICT, *flags, "-c", f"{made}/pocket.c", "-o", to)
+    told = [line.split() for line in run("nm", to).decode().splitlines()]
+    return {words[1] for words in told if words[0] == "U"} - {"_GLOBAL_OFFSET_TABLE_"}, {words[2] for words in told if words[1] == "T"}
+
+
+def asks(room, name):
+    """What the file asks for on a processor without an operating system or a C library, beside what is told of it, or None."""
+    compiler, helpers = BARE[name]
+    need(compiler[0])
+    for level in ("-Os", "-O3"):
+        asked, _ = symbols(compiler, [level, "-ffreestanding", "-DPOCKET_NO_HEAP", "-DPOCKET_NO_LIBC"], room.made, room.at(f"bare-{name}.o"))
+        if asked - helpers:
+            return f"{level} asks for {sorted(asked - helpers)}"
+    return None
+
+
+def upsets(room):
+    """How a call does harm, or has no end, if a bit of its block was turned before it (tests/c/upset.c), or None."""
+    need("gcc")
+    to = room.at("upset")
+    run("gcc", *STRICT, "-O1", "-g", *SANITIZERS, "-D_POSIX_C_SOURCE=200809L", "-I", room.made, "-o", to, f"{TOP}/tests/c/upset.c", f"{room.made}/pocket.c")
+    found = run(to, "1", "13", "64", "1024").decode().splitlines()[-1]
+    return None if found.endswith(" passed, 0 failed") and not found.startswith("0 ") else found
+
+
+def complains(room, compiler):
+    """Whether a compiler takes the file without a flag and without a complaint, and what it asks the C library for."""
+    need(compiler)
+    for flags, needs in (([], LIBC | {"malloc", "free"}), (["-DPOCKET_NO_HEAP"], LIBC), (["-DPOCKET_NO_RECEIVER", "-DPOCKET_NO_HEAP"], LIBC),
+                         (["-DPOCKET_NO_SENDER", "-DPOCKET_NO_HEAP"], LIBC), (["-DPOCKET_UNCHECKED"], LIBC | {"malloc", "free"})):
+        to = room.at(f"{compiler}.o")
+        asked, calls = symbols([compiler], ["-O0" if flags else "-O1", *flags], room.made, to)
+        if asked - needs:
+            return f"{flags} asks for {sorted(asked - needs)}"
+        left_out = {"-DPOCKET_NO_SENDER": "send", "-DPOCKET_NO_RECEIVER": "receive"}.get(flags[0] if flags else "")
+        if left_out and any(left_out in it for it in calls):
+            return f"{flags} has {sorted(calls)}"
+    run(compiler, "-c", f"{room.made}/pocket.c", "-o", to)
+    return None
+
+
+def own(room, compiler, how, flags, before):
+    """How tests/c/one_file.c fails, or None."""
+    need(compiler, *before[:1])
+    to = room.at(f"own-{compiler}-{how}")
+    run(compiler, *STRICT, *flags, "-I", room.made, "-o", to, OWN)
+    found = run(*before, to, how).decode().splitlines()[-1]
+    return None if found.endswith(" passed, 0 failed") and not found.startswith("0 ") else found
+
+
+def wrong(room, name):
+    """Whether a build with a wrong order of bytes fails on powerpc."""
+    text, instead = WRONG[name]
+    with open(f"{room.made}/pocket.c", encoding="utf-8") as file:
+        source = file.read()
+    if source.count(text) != 1:
+        return f"the file has {source.count(text)} times {text!r}"
+    folder = room.at(name.split(" ")[0])
+    os.makedirs(folder)
+    shutil.copy(f"{room.made}/pocket.h", folder)
+    with open(f"{folder}/pocket.c", "w", encoding="utf-8") as file:
+        file.write(source.replace(text, instead))
+    compiler, _, emulator = TARGETS["powerpc"]
+    need(compiler, *emulator)
+    to = os.path.join(folder, "driver")
+    run(compiler, "-std=c99", "-O1", "-static", "-DPOCKET_ONE_FILE", "-I", folder, "-o", to, DRIVER, f"{folder}/pocket.c")
+    lines = "".join(line + "\n" for lines, _ in room.tests.values() for line in lines).encode()
+    found = subprocess.run([*emulator, to], input=lines, capture_output=True, timeout=600).stdout.decode(errors="replace").splitlines()
+    return "it gives what is right" if found == [line for lines in room.wanted.values() for line in lines] else None
+
+
+def helpers(room):
+    """How the functions for 64 bits of the examples differ from what C says, or None."""
+    run("gcc", *STRICT, "-O1", "-o", room.at("helpers"), f"{TOP}/tests/c/helpers.c")
+    found = run(room.at("helpers")).decode().splitlines()[-1]
+    return None if found.endswith(" passed, 0 failed") else found
+
+
+def board(room, example, compiler, machine):
+    """Whether the loop on board of an example makes the packets that `compress` makes."""
+    need("make", compiler, machine[0])
+    folder, data = room.at(f"board-{machine[0]}"), f"{TOP}/crates/pocket/data/hk.rec"
+    os.makedirs(folder)
+    shutil.copy(data, folder)
+    run("make", "-s", "-C", example, f"POCKET={room.made}", f"OUT={folder}")
+    told = run(*over(machine, data), f"{folder}/onboard.elf", cwd=folder)
+    if machine != QEMU_BOARD:
+        with open(f"{folder}/hk.store", "wb") as file:
+            file.write(told)
+    with open(f"{folder}/plan", "w", encoding="ascii") as file:
+        file.write("20,4294967295,20,p\n30,30,1,fr\n")
+    run(PROGRAM, "compress", "in=hk.rec", "out=wanted", "bits=64", "apid=100", "robust=2", "plan=plan", cwd=folder)
+    return None if same(f"{folder}/hk.store", f"{folder}/wanted") else "its packets are others"
+
+
+def from_python(room):
+    """How the states of test_states.py fail, from Python over a shared library that is made of the file, or None."""
+    to = room.at("libpocket.so")
+    run("gcc", "-std=c99", "-O1", "-fPIC", "-shared", "-o", to, f"{room.made}/pocket.c")
+    found = subprocess.run([sys.executable, "-m", "unittest", "test_states"], cwd=f"{TOP}/tests", capture_output=True, env=dict(os.environ, POCKET_LIBRARY=to), timeout=100)
+    return found.stderr[-400:] if found.returncode else None
+
+
+def any_states(room):
+    """How bytes that are taken for a state do harm (tests/c/states.c), by the sanitizers, or None."""
+    need("gcc")
+    to = room.at("states")
+    run("gcc", *STRICT, "-O1", "-g", *SANITIZERS, "-I", room.made, "-o", to, f"{TOP}/tests/c/states.c", f"{room.made}/pocket.c")
+    found = run(to, "20000").decode().splitlines()[-1]
+    return None if found.endswith(" passed, 0 failed") and not found.startswith("0 ") else found
+
+
+def fuzzed_states(room):
+    """How bytes that libFuzzer makes of how the file's branches go do harm as a state, or None."""
+    need("clang")
+    to = room.at("fuzzed-states")
+    run("clang", "-O1", "-g", "-fsanitize=fuzzer,address,undefined", "-fno-sanitize-recover=all", "-DPOCKET_FUZZED", "-I", room.made, "-o", to,
+        f"{TOP}/tests/c/states.c", f"{room.made}/pocket.c")
+    run(to, "-runs=60000", "-seed=1", "-max_len=600", cwd=room.folder)
+    return None
+
+
+def tries(room):
+    """All that is tried beside the making: each with its name, and a function that gives what is wrong, or None."""
+    yield "dist/ is what the sources make", lambda: same_as_committed(room)
+    for compiler in ("gcc", "clang"):
+        yield f"{compiler} takes it without a flag or a complaint", lambda c=compiler: complains(room, c)
+    for name in TARGETS:
+        yield f"{name}: as the library", lambda n=name: compares(room, n)
+    yield "the file's own", lambda: own(room, "gcc", "all", ["-O1"], [])
+    yield "the file's own, by the sanitizers", lambda: own(room, "clang", "some", ["-O1", "-g", *SANITIZERS], [])
+    yield "the file's own, under valgrind", lambda: own(room, "gcc", "some", ["-O1", "-g"], VALGRIND)
+    yield "the file's own, on powerpc", lambda: own(room, TARGETS["powerpc"][0], "some", ["-O1", "-static"], TARGETS["powerpc"][2])
+    for name in WRONG:
+        yield f"a wrong build fails: {name}", lambda n=name: wrong(room, n)
+    for name in BARE:
+        yield f"what it asks for: {name}", lambda n=name: asks(room, n)
+    yield "each bit of a block turned", lambda: upsets(room)
+    yield "the helpers for 64 bits", lambda: helpers(room)
+    for name, *how in (("Cortex-M", BOARD, "arm-none-eabi-gcc", QEMU_BOARD), ("LEON3", LEON3, "sparc64-linux-gnu-gcc", QEMU_LEON3),
+                       ("RISC-V of 32 bits", RISCV32, "riscv64-unknown-elf-gcc", QEMU_RISCV32)):
+        yield f"the example for {name}", lambda h=how: board(room, *h)
+    yield "states from Python", lambda: from_python(room)
+    yield "any bytes as a state", lambda: any_states(room)
+    yield "any bytes as a state, by libFuzzer", lambda: fuzzed_states(room)
+
+
+def tried(attempt):
+    """What a try gives: what is wrong, or None, or what it raised."""
+    try:
+        return attempt()
+    except Exception as error:
+        return error
+
+
+@functools.cache
+def made():
+    """The folder of all tests of the file."""
+    folder = tempfile.mkdtemp(prefix="pocket-one-file-")
+    atexit.register(shutil.rmtree, folder)
+    os.chmod(folder, 0o755)
+    return Room(folder)
+
+
+class OneFile(unittest.TestCase):
+    def test_each(self):
+        room = made()
+        with self.subTest("the files are made"):
+            need(*["wasm2c", "wasm-opt", "esbuild"] * (room.made == DIST))
+        names, attempts = zip(*tries(room))
+        with concurrent.futures.ThreadPoolExecutor(os.cpu_count()) as at_once:
+            found = zip(names, at_once.map(tried, attempts))
+        for name, fault in found:
+            with self.subTest(name):
+                if isinstance(fault, Exception):
+                    raise fault
+                self.assertIsNone(fault)
+
+
+def leaves_more(row):
+    """Whether a command that is refused leaves more than stood before, or prints some of its output."""
+    left = any(content is not None and row["before"].get(name) != content for name, content in row["after"].items())
+    return row["status"] != 0 and (left or bool(row["out"]))
+
+
+class Program(ProgramTest):
+    def compares(self, rows, compiler, flags, emulator=()):
+        """Runs these rows by the program of the file."""
+        need(compiler, *emulator)
+        program = made().at(f"program-{compiler}")
+        run(compiler, "-std=c99", "-Wall", "-Wextra", *flags, "-o", program, f"{made().made}/pocket-program.c")
+        self.user += map(shutil.which, emulator)
+        self.program = program
+        same = [row for row in rows if not leaves_more(row) and row["words"] not in (["--version"], ["-V"])]
+        self.assertGreater(len(same), 50)
+        self.each(same)
+
+    def test_native(self):
+        self.compares(VERBS + WORDS + TEXTS + DATA + FILES, "gcc", ["-O0"])
+
+    def test_powerpc(self):
+        self.compares(VERBS + WORDS, TARGETS["powerpc"][0], ["-O0", "-static"], TARGETS["powerpc"][2])
