@@ -188,25 +188,24 @@ pocket_status pocket_checked_counts(pocket_handle *handle, pocket_tally *tally);
 /* Tells the number of bits of a sender or a receiver. Takes no memory. POCKET_IS_CLOSED, OTHER_KIND; of the one file BROKEN, as each call. */
 pocket_status pocket_checked_bits(pocket_handle *handle, uint32_t *bits);
 
-/* ---- States: what a receiver holds, as bytes from which another one goes on, on any processor ----
- * A state of version 1 is read by all later releases. A sender's state is given by the one file alone, and read by the same file alone.
- * The most bytes that a state of so many bits has: as a macro for an array, and by the call, 0 if the bits are not from 1 to 49,152 or there
- * is no state of that kind. */
+/* ---- States: what a sender or a receiver holds, as bytes from which another one goes on, on any processor ----
+ * A state of version 1 is read by all later releases. The most bytes that a state of so many bits has, of a sender or of a receiver: as a
+ * macro for an array, and 0 by the call if the bits are not from 1 to 49,152 or the kind is none of the two. */
 #define POCKET_OF_SENDER 1u
 #define POCKET_OF_RECEIVER 2u
+#define POCKET_SENDER_STATE_BYTES(bits) (47u + 21u * POCKET_INPUT_BYTES(bits))
 #define POCKET_RECEIVER_STATE_BYTES(bits) (74u + 3u * POCKET_INPUT_BYTES(bits))
 size_t pocket_state_bytes(uint32_t bits, uint32_t kind);
 
-/* Gives what a receiver holds, as the first *length bytes of state, which has room for the most. Receivers that hold the same have the same
- * bytes. Takes no memory. POCKET_IS_CLOSED, OTHER_KIND of what has no state, NO_ROOM: the first that is so. */
+/* Gives what a sender or a receiver holds, as the first *length bytes of state, which has room for the most. Senders that hold the same, and
+ * receivers, have the same bytes. Takes no memory. POCKET_IS_CLOSED, OTHER_KIND of a desk, NO_ROOM: the first that is so. */
 pocket_status pocket_checked_save(pocket_handle *handle, uint8_t *state, size_t room, size_t *length);
 
-/* Puts a state in place of what an open handle of its kind and bits holds, which then goes on as the saved one would have. Each receiver's
- * state that is taken is one that a receiver can hold; the sum at its end finds damage, and doesn't tell who wrote it. A sender's state that
- * somebody forged leads nowhere outside its memory, unless the file was compiled with POCKET_UNCHECKED. Takes no memory.
+/* Puts a state in place of what an open handle of its kind and bits holds, which then goes on as the saved one would have. Each state that is
+ * taken is one that a sender or a receiver can hold; the sum at its end finds damage, and doesn't tell who wrote it. Takes no memory.
  * A sender that goes on from a state older than its last packet would contradict what it sent: leave out 16 sequence counts (by pocket_sent
  * and a header of one's own), and ask for the mask and the whole content in the next packet.
- * POCKET_IS_CLOSED, OTHER_KIND of what has no state, NO_STATE, OTHER_STATE: one that is so. */
+ * POCKET_IS_CLOSED, OTHER_KIND of a desk, NO_STATE, OTHER_STATE: one that is so. */
 pocket_status pocket_checked_load(pocket_handle *handle, const uint8_t *state, size_t length);
 
 /* Opens a desk at which nothing is kept, and there is no word. Takes memory. POCKET_IS_OPEN, NO_MEMORY. */
@@ -254,7 +253,7 @@ const char *pocket_status_text(uint32_t status);
 
 /* The bytes of memory that an open sender or receiver of so many bits takes, for a static array: those that pocket_sender_bytes and
  * pocket_receiver_bytes give. The calls have a stack of their own in it, deep enough for each; besides it they take C's stack. */
-#define POCKET_STACK_BYTES 1152u
+#define POCKET_STACK_BYTES 512u
 #define POCKET_FIXED_BYTES (POCKET_STACK_BYTES + 15u + 48u + 80u + 8u)
 #define POCKET_UP_TO_EIGHT(bytes) (((size_t)(bytes) + 7u) / 8u * 8u)
 #define POCKET_VECTOR_BYTES(bits) (((size_t)(bits) + 63u) / 64u * 8u)
@@ -265,9 +264,6 @@ const char *pocket_status_text(uint32_t status);
 #define POCKET_RECEIVER_BYTES(bits) \
     (POCKET_FIXED_BYTES + POCKET_RECEIVER_HEAP(bits) + POCKET_UP_TO_EIGHT(POCKET_INPUT_BYTES(bits) + 1u) + \
      POCKET_UP_TO_EIGHT(POCKET_PACKET_BYTES(bits) + 8u))
-
-/* The bytes of a sender's state, all of the same number of bits. */
-#define POCKET_SENDER_STATE_BYTES(bits) (34u + POCKET_SENDER_HEAP(bits))
 
 /* The bytes of memory, or 0 if the number of bits is not from 1 to 49,152. */
 size_t pocket_sender_bytes(uint32_t bits);
