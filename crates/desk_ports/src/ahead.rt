@@ -90,6 +90,7 @@ impl ReadAhead {
 
     // Reads once, into all the room that is left, and tells how many bytes were added: 0 exactly at the end.
     #[cold]
+    #[inline(never)]
     fn read<D: Desk>(&mut self, desk: &mut D) -> Result<usize, Failed>
         requires open { IsReadyIn (D.meaning desk.old) Inlet.Main }
         requires room { length self.old < 131072 }

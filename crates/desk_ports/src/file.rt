@@ -10,7 +10,6 @@ ghost use Rattle.desk_ports.specs.FileDesk.{awaits_outlet, expects_report, file_
 mod outlets;
 
 use crate::desk::{Desk, Failed, Inlet, Outlet};
-use crate::part::refused;
 use crate::progress::Progress;
 use crate::read_faults::ReadFaults;
 use crate::sink::Sink;
@@ -328,7 +327,7 @@ impl<'a> Desk for FileDesk<'a> {
     {
         self.write_faults.due()?;
         if self.awaits_outlet() {
-            return Err(self.write_faults.fault((outlet, refused(UNOPENED))));
+            return Err(self.write_faults.refuse(outlet, UNOPENED));
         }
         match outlet {
             Outlet::Main => self.output.write(outlet, bytes, &mut self.write_faults)?,

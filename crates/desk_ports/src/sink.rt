@@ -141,7 +141,7 @@ impl Sink {
     }
 
     /// Takes all the bytes for an outlet, and counts a failed writing, after which some of them may have been taken. The error is
-    /// kept where it comes: an `io::Error` is far larger than an answer.
+    /// kept where it comes.
     pub fn write(
         &mut self,
         outlet: Outlet,
@@ -161,11 +161,13 @@ impl Sink {
             Sink::Nothing => unreachable!(),
             Sink::StandardOutput(stdout, unfinished) => {
                 *unfinished = true;
-                faults.answer(outlet, stdout.write_all(bytes))
+                let mut given = stdout.write_all(bytes);
+                faults.answer(outlet, &mut given)
             }
             Sink::File(file, _, unfinished) => {
                 *unfinished = true;
-                faults.answer(outlet, file.write_all(bytes))
+                let mut given = file.write_all(bytes);
+                faults.answer(outlet, &mut given)
             }
         }
     }

@@ -94,6 +94,7 @@ impl Source {
 }
 
 // Reads once, from whatever reader, and counts a failed reading. So none is told as the end of the input.
+#[inline(never)]
 fn read_counted<R: Read>(
     reader: &mut R,
     inlet: Inlet,

@@ -3,7 +3,9 @@
 ghost use Rattle.std.specs.Prelude.{◌≡◌, ◌+◌, ◌-◌, ◌^◌, min, Ok, IsTrue, IsFalse, IsErr, OnOk, OnErr};
 
 use crate::desk::{Failed, Outlet};
+use crate::part::refused;
 use std::io;
+use std::mem::replace;
 
 /// A count of failed writings, which ends at 18,446,744,073,709,551,615, the last error, with its outlet, and whether one is
 /// pending: what is handed over while something else is done can fail too, and the next call that writes answers for it.
@@ -43,17 +45,34 @@ impl WriteFaults {
         self.last.as_ref()
     }
 
-    /// The answer of a call that writes at an outlet: a fault exactly if the system gave an error.
+    /// The answer of a call that writes at an outlet: a fault exactly if the system gave an error, which is kept.
     #[inline(always)]
-    pub fn answer(&mut self, outlet: Outlet, given: io::Result<()>) -> Result<(), Failed>
-        ensures given { OnOk given (result ≡ Ok tt) }
-        ensures same { OnOk given (self.new ≡ self.old) }
-        ensures failed { OnErr given (IsErr result) }
-        ensures counted { OnErr given
+    pub fn answer(&mut self, outlet: Outlet, given: &mut io::Result<()>) -> Result<(), Failed>
+        ensures given { OnOk given.old (result ≡ Ok tt) }
+        ensures same { OnOk given.old (self.new ≡ self.old) }
+        ensures failed { OnErr given.old (IsErr result) }
+        ensures counted { OnErr given.old
             (self.new.count ≡ min (self.old.count + 1) (2 ^ 64 - 1)) }
         ensures pending { self.new.pending ≡ self.old.pending }
     {
-        match given {
+        if given.is_ok() {
+            return Ok(());
+        }
+        self.tell(outlet, given)
+    }
+
+    // The same of a call that failed. It stands apart, and takes the error where it is: an `io::Error` is far larger than an answer.
+    #[cold]
+    #[inline(never)]
+    fn tell(&mut self, outlet: Outlet, given: &mut io::Result<()>) -> Result<(), Failed>
+        ensures given { OnOk given.old (result ≡ Ok tt) }
+        ensures same { OnOk given.old (self.new ≡ self.old) }
+        ensures failed { OnErr given.old (IsErr result) }
+        ensures counted { OnErr given.old
+            (self.new.count ≡ min (self.old.count + 1) (2 ^ 64 - 1)) }
+        ensures pending { self.new.pending ≡ self.old.pending }
+    {
+        match replace(given, Ok(())) {
             Ok(()) => Ok(()),
             Err(error) => Err(self.fault((outlet, error))),
         }
@@ -68,6 +87,16 @@ impl WriteFaults {
         self.count = self.count.saturating_add(1);
         self.last = Some(fault);
         Failed
+    }
+
+    /// Counts a writing that is refused for this reason.
+    #[cold]
+    #[inline(never)]
+    pub fn refuse(&mut self, outlet: Outlet, reason: &'static str) -> Failed
+        ensures count { self.new.count ≡ min (self.old.count + 1) (2 ^ 64 - 1) }
+        ensures pending { self.new.pending ≡ self.old.pending }
+    {
+        self.fault((outlet, refused(reason)))
     }
 
     /// Leaves an error of the system to the next call that writes.
