@@ -1,10 +1,10 @@
 //! What a second line on standard error says of a refusal, if that is a terminal or the environment asks for it. Nothing
 //! that is decided looks at it.
 
-use crate::keys::{Takes, row_of, value_of};
+use crate::keys::Takes;
 use desk_ports::{FileDesk, Inlet, Outlet};
 use param_table::FieldText;
-use pocket_cmd::{MOST_TEXT_BYTES, Refusal, VERB_WORDS, ValueKind, Verb};
+use pocket_cmd::{MOST_TEXT_BYTES, Port, Refusal, VERB_WORDS, ValueKind, Verb, row_of, text_of};
 use side_tables::{RowFault, ScheduleText, ScriptText, StreamText, wrong_row};
 use std::fmt::{Display, Formatter};
 use std::io::IsTerminal;
@@ -42,25 +42,18 @@ pub fn advise<'a>(rt: &HostRuntime, words: &[String], desk: &FileDesk<'a>, refus
     }
     match refusal {
         Refusal::BadWords { word } => tell_word(rt, words, *word as usize),
-        Refusal::BadSide { .. } => tell_side(rt, words),
-        Refusal::BadScript { .. } => {
-            tell_row(
-                rt,
-                words,
-                "script",
-                value_of(words, "script").unwrap_or("-"),
-            );
-        }
-        Refusal::ReadFault => {
-            if let Some(fault) = desk.read_fault() {
-                tell_reading(rt, words, fault);
-            }
-        }
-        Refusal::WriteFault => {
-            if let Some(fault) = desk.write_fault() {
-                tell_writing(rt, words, fault);
-            }
-        }
+        Refusal::BadSide { .. } => tell_row(rt, words, Port::Side),
+        Refusal::BadScript { .. } => tell_row(rt, words, Port::Input),
+        Refusal::ReadFault => match desk.read_fault() {
+            Some((Inlet::Main, error)) => tell_failed(rt, words, Port::Input, error),
+            Some((Inlet::Side, error)) => tell_failed(rt, words, Port::Side, error),
+            None => {}
+        },
+        Refusal::WriteFault => match desk.write_fault() {
+            Some((Outlet::Main, error)) => tell_failed(rt, words, Port::Output, error),
+            Some((Outlet::Report, error)) => tell_failed(rt, words, Port::Report, error),
+            None => {}
+        },
         Refusal::CutRecord { .. } | Refusal::SpareBit { .. } => tell_parts(rt, words),
         Refusal::BadStore { .. } | Refusal::TooMany => tell_parts(rt, words),
         Refusal::SideTooLong | Refusal::ScriptTooLong | Refusal::NoMemory => {}
@@ -110,7 +103,7 @@ fn near(rt: &HostRuntime, word: &str, all: &[&'static str]) -> Option<&'static s
 fn tell_missing(rt: &HostRuntime, verb: Verb, given: &[String]) {
     for row in verb.rows() {
         let key = row.key();
-        if row.is_needed() && value_of(given, key).is_none() {
+        if row.is_needed() && text_of(given, key).is_none() {
             let takes = Takes(*row);
             let _ = eprintln!(rt; "pocket: {key}= is missing: {takes}");
             return;
@@ -125,12 +118,12 @@ fn tell_value(rt: &HostRuntime, name: &str, verb: Verb, before: &[String], word:
         let _ = eprint!(rt; "pocket: {shown} has no =; ");
         return tell_keys(rt, name, verb);
     };
-    let Some(row) = row_of(verb, key) else {
+    let Some(row) = row_of(verb.rows(), key) else {
         return tell_key(rt, name, verb, key);
     };
     let takes = Takes(row);
     let is_number = matches!(row.value(), ValueKind::Number(..));
-    let _ = if value_of(before, key).is_some() {
+    let _ = if text_of(before, key).is_some() {
         eprintln!(rt; "pocket: {shown}: an earlier word has this key")
     } else if is_number {
         eprintln!(rt; "pocket: {shown}: {takes}; digits alone, without a zero in front")
@@ -165,17 +158,23 @@ fn tell_keys(rt: &HostRuntime, name: &str, verb: Verb) {
     let _ = eprintln!(rt; "");
 }
 
-/// Tells what is wrong with a row of the side input, which is the first of these that the words have.
-fn tell_side(rt: &HostRuntime, words: &[String]) {
-    for key in ["plan", "script", "fields", "streams"] {
-        if let Some(name) = value_of(words, key) {
-            return tell_row(rt, words, key, name);
+/// The key of what a command opens there, and the name that its words give to it.
+fn named<'a>(words: &'a [String], port: Port) -> Option<(&'static str, &'a str)> {
+    let (verb, words) = words.split_first()?;
+    for row in Verb::of(verb.as_str())?.rows() {
+        if row.value().is_name_at(port) {
+            return Some((row.key(), text_of(words, row.key())?));
         }
     }
+    None
 }
 
-/// Tells the text of the first wrong row and which part of it is wrong, if it was read from a file.
-fn tell_row(rt: &HostRuntime, words: &[String], key: &str, name: &str) {
+/// Tells the text of the first wrong row of a text that is opened there, and which part of it is wrong, if it was read from a
+/// file.
+fn tell_row(rt: &HostRuntime, words: &[String], port: Port) {
+    let Some((key, name)) = named(words, port) else {
+        return;
+    };
     let is_short = fs::metadata(rt, name).is_ok_and(|it| it.is_file()
         && it.len() <= MOST_TEXT_BYTES as u64);
     if name == "-" || !is_short {
@@ -198,7 +197,7 @@ fn wrong_row_of<'a>(
     text: &'a str,
 ) -> Option<(&'a str, RowFault)> {
     let (alloc, bytes) = (rt.alloc(), text.as_bytes());
-    let bits = value_of(words, "bits").and_then(|bits| bits.parse::<u32>().ok());
+    let bits = text_of(words, "bits").and_then(|bits| bits.parse::<u32>().ok());
     let (record, fault) = match key {
         "plan" => wrong_row(alloc, &ScheduleText, bytes),
         "script" => wrong_row(alloc, &ScriptText, bytes),
@@ -224,7 +223,7 @@ pub fn caution(rt: &HostRuntime, words: &[String]) {
     let is_compress = words
         .first()
         .is_some_and(|verb| verb.as_str() == "compress");
-    if is_compress && value_of(words, "plan").is_none() {
+    if is_compress && text_of(words, "plan").is_none() {
         let _ = eprintln!(rt;
             "pocket: without plan= no later packet carries its mask and whole content: more than robust= lost in a row may leave all after them unwritten"
         );
@@ -233,7 +232,7 @@ pub fn caution(rt: &HostRuntime, words: &[String]) {
 
 /// Tells that an output is a file without a byte, as it is if a store has no packet on the APID.
 fn tell_empty(rt: &HostRuntime, words: &[String]) {
-    let Some(name) = value_of(words, "out") else {
+    let Some(name) = text_of(words, "out") else {
         return;
     };
     let is_empty = fs::metadata(rt, name).is_ok_and(|it| it.is_file() && it.len() == 0);
@@ -241,7 +240,7 @@ fn tell_empty(rt: &HostRuntime, words: &[String]) {
         return;
     }
     let shown = Shown(name);
-    let _ = match value_of(words, "apid") {
+    let _ = match text_of(words, "apid") {
         Some(apid) => {
             eprintln!(rt; "pocket: {shown} has no byte: no packet on APID {apid} was written")
         }
@@ -249,26 +248,11 @@ fn tell_empty(rt: &HostRuntime, words: &[String]) {
     };
 }
 
-/// Tells the error of an input with its name, which the first of its keys that the words have gives.
-fn tell_reading(rt: &HostRuntime, words: &[String], (inlet, error): &(Inlet, io::Error)) {
-    let keys = match inlet {
-        Inlet::Main => ["in", "script", "", ""],
-        Inlet::Side => ["plan", "script", "fields", "streams"],
-    };
-    for key in keys {
-        if let Some(name) = value_of(words, key) {
-            return tell_error(rt, name, error);
-        }
+/// Tells the error of what is opened there with its name.
+fn tell_failed(rt: &HostRuntime, words: &[String], port: Port, error: &io::Error) {
+    if let Some((_, name)) = named(words, port) {
+        tell_error(rt, name, error);
     }
-}
-
-/// Tells the error of an output with its name.
-fn tell_writing(rt: &HostRuntime, words: &[String], (outlet, error): &(Outlet, io::Error)) {
-    let key = match outlet {
-        Outlet::Main => "out",
-        Outlet::Report => "report",
-    };
-    tell_error(rt, value_of(words, key).unwrap_or(key), error);
 }
 
 /// Tells an error of the system with the name of the file, if a second line is asked for.
@@ -283,7 +267,7 @@ pub fn tell_error(rt: &HostRuntime, name: &str, error: &io::Error) {
 fn tell_parts(rt: &HostRuntime, words: &[String]) {
     let mut is_begun = false;
     for key in ["out", "report"] {
-        let part = value_of(words, key).and_then(|name| part_of(rt, name));
+        let part = text_of(words, key).and_then(|name| part_of(rt, name));
         if let Some(part) = part {
             let shown = Shown(part.as_str());
             let _ = if is_begun {

@@ -1,7 +1,7 @@
 //! What the keys of a verb take: by the rows of the command, and in the words of the help.
 
 use crate::HELP;
-use pocket_cmd::{KeyRow, ValueKind, Verb};
+use pocket_cmd::{KeyRow, ValueKind};
 use std::fmt;
 use std::fmt::{Display, Formatter};
 
@@ -21,16 +21,6 @@ impl Display for Takes {
         };
         write!(f, "{meaning}, {low} to {high}")
     }
-}
-
-/// The row of a key that a verb has.
-pub fn row_of(verb: Verb, key: &str) -> Option<KeyRow> {
-    for row in verb.rows() {
-        if row.key() == key {
-            return Some(*row);
-        }
-    }
-    None
 }
 
 /// What the help says of a key.
@@ -59,16 +49,4 @@ fn is_among(names: &str, key: &str) -> bool {
         }
     }
     false
-}
-
-/// The value that words give to a key.
-pub fn value_of<'a>(words: &'a [String], key: &str) -> Option<&'a str> {
-    for word in words {
-        if let Some((name, value)) = word.as_str().split_once('=') {
-            if name == key {
-                return Some(value);
-            }
-        }
-    }
-    None
 }

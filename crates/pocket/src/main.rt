@@ -25,7 +25,7 @@ use verb_help::print_help;
 /// No verb has as many words, so a command line that is cut here is refused just as the whole one is.
 const MOST_WORDS: usize = 1000;
 
-/// The exit number if the system refuses the words.
+/// The exit status if the system refuses the arguments.
 const NO_WORDS: u8 = 7;
 
 const HELP: &str = "\
@@ -60,14 +60,14 @@ The keys come in any order, and those in brackets may be left out:
     seed              where the numbers of a trial begin, 0 to 4294967295
     packets           how many packets there are, of a trial 1 to 10000, of a forecast 1 to 1000000
     window            how many packets with greater numbers may come before a late one, 0 to 64
-Exit numbers:
+Exit status:
     0  done
     1  reading or writing failed
-    2  a word is wrong, where word 0 is the verb
+    2  an argument is wrong (word 0 is the verb)
     3  the schedule, the script, the streams or the fields are wrong
     4  the recording or the store is wrong
     5  out of memory
-    7  the words cannot be read";
+    7  the arguments cannot be read";
 
 const VERSION: &str = "pocket 1.1.0";
 
@@ -240,7 +240,7 @@ fn first_words(words: &[String]) -> &[String]
     &words[..MOST_WORDS.min(words.len())]
 }
 
-/// The exit number after something was printed on standard output.
+/// The exit status after something was printed on standard output.
 fn printed(rt: &HostRuntime, print: io::Result<()>) -> ExitCode {
     match print {
         Ok(()) => ExitCode::SUCCESS,
@@ -253,7 +253,7 @@ fn printed(rt: &HostRuntime, print: io::Result<()>) -> ExitCode {
 }
 
 /// Prints a refusal on standard error, and on a terminal what these words and the desk of the run have to do with it, or what a
-/// sender risks; and gives the exit number.
+/// sender risks; and gives the exit status.
 fn ended<'a>(
     rt: &HostRuntime,
     words: &[String],

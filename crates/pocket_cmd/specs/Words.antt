@@ -79,26 +79,27 @@ abbrev pub is_text : Option (List ℕ) → List ℕ → Bool
 is_text None name = false
 is_text (Some text) name = bytes_eq text name
 
--- words give this name to what is read, or to what is written
+-- words give this name to what is opened at one of two ports
+abbrev pub have_name : List KeyRow → List (List ℕ) → Port → Port → List ℕ → Bool
+have_name rows words one other name = is_text (name_of rows words one) name || is_text (name_of rows words other) name
+
+-- words give it to what is read, or to what is written
 abbrev pub is_name_read : List KeyRow → List (List ℕ) → List ℕ → Bool
-is_name_read rows words name = is_text (name_of rows words Side) name || is_text (name_of rows words Input) name
+is_name_read rows words name = have_name rows words Side Input name
 
 abbrev pub is_name_written : List KeyRow → List (List ℕ) → List ℕ → Bool
-is_name_written rows words name = is_text (name_of rows words Output) name || is_text (name_of rows words Report) name
+is_name_written rows words name = have_name rows words Output Report name
 
--- a name has at least one byte and is none of the names of these words; but `-` may stand once to read and once to write
-abbrev pub is_new_to_read : List KeyRow → List (List ℕ) → List ℕ → Bool
-is_new_to_read rows words name = not (length name == 0) && not (is_name_read rows words name) && (bytes_eq name (codes "-") || not (is_name_written rows words name))
-
-abbrev pub is_new_to_write : List KeyRow → List (List ℕ) → List ℕ → Bool
-is_new_to_write rows words name = not (length name == 0) && not (is_name_written rows words name) && (bytes_eq name (codes "-") || not (is_name_read rows words name))
+-- a name has at least one byte and does not stand in its own direction; but `-` may stand once to read and once to write
+abbrev pub is_new : Bool → Bool → List ℕ → Bool
+is_new own other name = not (length name == 0) && not own && (bytes_eq name (codes "-") || not other)
 
 -- a text is a value of this kind, after these words; any is one of a mask
 abbrev pub fits : List KeyRow → List (List ℕ) → ValueKind → List ℕ → Bool
-fits rows words (Name Side) text = is_new_to_read rows words text
-fits rows words (Name Input) text = is_new_to_read rows words text
-fits rows words (Name Output) text = is_new_to_write rows words text
-fits rows words (Name Report) text = is_new_to_write rows words text
+fits rows words (Name Side) text = is_new (is_name_read rows words text) (is_name_written rows words text) text
+fits rows words (Name Input) text = is_new (is_name_read rows words text) (is_name_written rows words text) text
+fits rows words (Name Output) text = is_new (is_name_written rows words text) (is_name_read rows words text) text
+fits rows words (Name Report) text = is_new (is_name_written rows words text) (is_name_read rows words text) text
 fits rows words (Number low high) text = is_some (number_of low high text)
 fits rows words Mask text = true
 

@@ -28,4 +28,5 @@ pub use status::{Refusal, Status, exit_code};
 pub use told::refusal_row;
 pub use top::pocket;
 pub use trial_chain::{Summary, run_trial};
-pub use verbs::{KeyRow, Port, VERB_WORDS, ValueKind, Verb};
+pub use verbs::{KeyRow, Port, VERB_WORDS, ValueKind, Verb, row_of};
+pub use words::text_of;

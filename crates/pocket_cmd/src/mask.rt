@@ -3,22 +3,13 @@ ghost use Rattle.std.specs.Prelude.{◌≡◌, ◌≤◌, false, length, take, I
 ghost use Rattle.std.specs.Option.{option_map};
 ghost use Rattle.bit_vectors.specs.Vectors.{byte_count, has_spare_bit};
 ghost use Rattle.bit_vectors.specs.Vectors.{IsPlaces};
-ghost use Rattle.pocket_cmd.specs.Masks.{first_mask, is_mask, mask_bytes};
+ghost use Rattle.pocket_cmd.specs.Masks.{first_mask, mask_bytes};
 
 use bit_vectors::{BitEye, Bits, NoMemory, byte_len};
 use std::alloc::Global;
 
 /// The bytes of a vector of the most places.
 const MOST_MASK_BYTES: usize = 6144;
-
-/// Whether a text denotes a vector of so many places: two digits of either case for each of its bytes, whose spare
-/// bits are 0.
-pub fn is_mask(bits: u32, text: &str) -> bool
-    requires { IsPlaces bits }
-    ensures { result ≡ is_mask bits text.now }
-{
-    mask_bytes(bits, text).is_some()
-}
 
 /// The vector of so many places that a text denotes, zero if there is no text or it denotes none.
 pub fn first_mask(alloc: Global, bits: u32, text: Option<&str>) -> Result<Bits, NoMemory>
@@ -37,8 +28,9 @@ pub fn first_mask(alloc: Global, bits: u32, text: Option<&str>) -> Result<Bits, 
     Ok(mask)
 }
 
-/// The bytes of the vector of so many places that a text denotes, and zeros after them.
-fn mask_bytes(bits: u32, text: &str) -> Option<[u8; MOST_MASK_BYTES]>
+/// The bytes of the vector of so many places that a text denotes, two digits of either case for each, whose spare bits are
+/// 0; and zeros after them.
+pub fn mask_bytes(bits: u32, text: &str) -> Option<[u8; MOST_MASK_BYTES]>
     requires { IsPlaces bits }
     ensures bytes { option_map (take (byte_count bits)) result ≡ mask_bytes bits text.now }
     ensures spare { IfSome result

@@ -1,5 +1,6 @@
 //! The verbs, and the keys that each of them has.
-ghost use Rattle.std.specs.Prelude.{◌≡◌, map};
+ghost use Rattle.std.specs.Prelude.{◌≡◌, map, IfSome};
+ghost use Rattle.std.specs.Option.{option_map};
 ghost use Rattle.pocket_cmd.specs.Verbs.{verb_of, verb_rows, view_row, kind_of, is_name_at};
 
 use KeyRow::{Needed, Optional};
@@ -195,13 +196,15 @@ impl ValueKind {
     }
 }
 
-/// The kind of the value of a key, if one of the rows has it.
-pub fn kind_of(rows: &[KeyRow], key: &str) -> Option<ValueKind>
-    ensures { result ≡ kind_of (map view_row rows.now) key.now }
+/// The row of a key, if one of the rows has it.
+pub fn row_of(rows: &[KeyRow], key: &str) -> Option<KeyRow>
+    ensures kind { option_map (λ row. (view_row row).kind) result
+        ≡ kind_of (map view_row rows.now) key.now }
+    ensures key { IfSome result (λ row. (view_row row).key ≡ key.now) }
 {
     for row in rows {
         if row.key() == key {
-            return Some(row.value());
+            return Some(*row);
         }
     }
     None

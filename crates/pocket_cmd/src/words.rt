@@ -4,10 +4,10 @@ ghost use Rattle.std.specs.Option.{option_map};
 ghost use Rattle.std.specs.String.{string_bytes};
 ghost use Rattle.bit_vectors.specs.Vectors.{IsPlaces};
 ghost use Rattle.pocket_cmd.specs.Verbs.{view_row, verb_rows};
-ghost use Rattle.pocket_cmd.specs.Words.{is_split, key_in, text_in, has_key, text_of, number_at, name_of, is_name_read, is_name_written, is_new_to_read, is_new_to_write, fits, is_right, wrong_word, is_missing, place_of, wrong_mask, fault_of};
+ghost use Rattle.pocket_cmd.specs.Words.{is_split, key_in, text_in, text_of, number_at, name_of, have_name, is_new, fits, is_right, wrong_word, is_missing, place_of, wrong_mask, fault_of};
 
-use crate::mask::is_mask;
-use crate::verbs::{KeyRow, Port, ValueKind, Verb, kind_of};
+use crate::mask::mask_bytes;
+use crate::verbs::{KeyRow, Port, ValueKind, Verb, row_of};
 use side_tables::number;
 
 /// What is to be done: a verb, and the words after it, which are right.
@@ -27,19 +27,32 @@ fn split(word: &str) -> Option<(&str, &str)>
     word.split_once('=')
 }
 
+/// The first word with a key: its place, that of the first word being 1, and the text that it gives to the key.
+fn find<'a>(words: &'a [String], key: &str) -> Option<(usize, &'a str)>
+    ensures text { option_map (λ found. found.1.now) result
+        ≡ text_of (map string_bytes words.now) key.now }
+    ensures place { IfSome result
+        (λ found. found.0 ≡ place_of (map string_bytes words.now) key.now) }
+    ensures within { IfSome result (λ found. found.0 ≤ length words.now) }
+{
+    let mut place = 1;
+    for word in words {
+        if let Some((name, text)) = split(word.as_str()) {
+            if name == key {
+                return Some((place, text));
+            }
+        }
+        place += 1;
+    }
+    None
+}
+
 /// The text that words give to a key.
 pub fn text_of<'a>(words: &'a [String], key: &str) -> Option<&'a str>
     ensures { option_map (λ text. text.now) result
         ≡ text_of (map string_bytes words.now) key.now }
 {
-    for word in words {
-        if let Some((name, text)) = split(word.as_str()) {
-            if name == key {
-                return Some(text);
-            }
-        }
-    }
-    None
+    Some(find(words, key)?.1)
 }
 
 /// The name of what is opened there, if a key has it and words give it.
@@ -103,9 +116,9 @@ fn is_right(rows: &[KeyRow], words: &[String], word: &str) -> bool
     let Some((key, text)) = split(word) else {
         return false;
     };
-    match kind_of(rows, key) {
+    match row_of(rows, key) {
         None => false,
-        Some(kind) => text_of(words, key).is_none() && fits(rows, words, kind, text),
+        Some(row) => text_of(words, key).is_none() && fits(rows, words, row.value(), text),
     }
 }
 
@@ -114,50 +127,29 @@ fn fits(rows: &[KeyRow], words: &[String], kind: ValueKind, text: &str) -> bool
     ensures { result
         ≡ fits (map view_row rows.now) (map string_bytes words.now) kind text.now }
 {
+    let read = have_name(rows, words, Port::Side, Port::Input, text);
+    let written = have_name(rows, words, Port::Output, Port::Report, text);
     match kind {
-        ValueKind::Name(Port::Side | Port::Input) => is_new_to_read(rows, words, text),
-        ValueKind::Name(Port::Output | Port::Report) => is_new_to_write(rows, words, text),
+        ValueKind::Name(Port::Side | Port::Input) => is_new(read, written, text),
+        ValueKind::Name(Port::Output | Port::Report) => is_new(written, read, text),
         ValueKind::Number(low, high) => number(text.as_bytes(), low, high).is_some(),
         ValueKind::Mask => true,
     }
 }
 
-/// A name to read, which has at least one byte and is none of the names of these words; `-` may also be a name to write.
-fn is_new_to_read(rows: &[KeyRow], words: &[String], name: &str) -> bool
-    ensures { result
-        ≡ is_new_to_read (map view_row rows.now) (map string_bytes words.now) name.now }
+/// Whether a name has at least one byte and does not stand in its own direction, nor in the other one, unless it is `-`.
+fn is_new(own: bool, other: bool, name: &str) -> bool
+    ensures { result ≡ is_new own other name.now }
 {
-    !name.is_empty()
-        && !is_name_read(rows, words, name)
-        && (name == "-" || !is_name_written(rows, words, name))
+    !name.is_empty() && !own && (name == "-" || !other)
 }
 
-/// A name to write, under the same conditions.
-fn is_new_to_write(rows: &[KeyRow], words: &[String], name: &str) -> bool
+/// Whether words give this name to what is opened at one of two ports.
+fn have_name(rows: &[KeyRow], words: &[String], one: Port, other: Port, name: &str) -> bool
     ensures { result
-        ≡ is_new_to_write (map view_row rows.now) (map string_bytes words.now) name.now }
+        ≡ have_name (map view_row rows.now) (map string_bytes words.now) one other name.now }
 {
-    !name.is_empty()
-        && !is_name_written(rows, words, name)
-        && (name == "-" || !is_name_read(rows, words, name))
-}
-
-/// Whether words give this name to what is read.
-fn is_name_read(rows: &[KeyRow], words: &[String], name: &str) -> bool
-    ensures { result
-        ≡ is_name_read (map view_row rows.now) (map string_bytes words.now) name.now }
-{
-    name_of(rows, words, Port::Side) == Some(name)
-        || name_of(rows, words, Port::Input) == Some(name)
-}
-
-/// Whether words give this name to what is written.
-fn is_name_written(rows: &[KeyRow], words: &[String], name: &str) -> bool
-    ensures { result
-        ≡ is_name_written (map view_row rows.now) (map string_bytes words.now) name.now }
-{
-    name_of(rows, words, Port::Output) == Some(name)
-        || name_of(rows, words, Port::Report) == Some(name)
+    name_of(rows, words, one) == Some(name) || name_of(rows, words, other) == Some(name)
 }
 
 /// Whether a key is needed that no word has.
@@ -179,34 +171,9 @@ fn wrong_mask(words: &[String]) -> Option<u32>
         IsSome (text_of words (codes "mask")) → IsPlaces (number_at words (codes "bits")) }
     ensures { result ≡ wrong_mask (map string_bytes words.now) }
 {
-    let text = text_of(words, "mask")?;
-    if is_mask(number_at(words, "bits"), text) {
-        return None;
-    }
-    Some(place_of(words, "mask") as u32)
-}
-
-/// The place of the first word with a key; the number of all words, if none has it.
-fn place_of(words: &[String], key: &str) -> usize
-    ensures place { result ≡ place_of (map string_bytes words.now) key.now }
-    ensures within { result ≤ length words.now + 1 }
-{
-    let mut place = 1;
-    for word in words {
-        if has_key(word.as_str(), key) {
-            return place;
-        }
-        place += 1;
-    }
-    place
-}
-
-/// Whether a word has this key.
-fn has_key(word: &str, key: &str) -> bool
-    ensures { result ≡ has_key key.now word.now }
-{
-    match split(word) {
-        None => false,
-        Some((name, _)) => name == key,
+    let (place, text) = find(words, "mask")?;
+    match mask_bytes(number_at(words, "bits"), text) {
+        Some(_) => None,
+        None => Some(place as u32),
     }
 }

@@ -1,7 +1,0 @@
-use Rattle.std.proofs.Common.{◌≡◌, map, drop}
-use Rattle.std.specs.String.{string_bytes}
-use Rattle.pocket_cmd.specs.Words.{text_of}
-use Rattle.pocket_cmd.proofs.words.text_of.Given as goal
-
-abbrev pub invariant-loop-word : goal.invariant-loop-word
-invariant-loop-word l = text_of (map string_bytes (drop l.word-index l.words)) l.key ≡ text_of (map string_bytes l.words) l.key
