@@ -33,7 +33,8 @@ FOR_C = ["-mllvm", "-inline-threshold=168"]
 EXPORTS = ["pocket_desk_open", "pocket_put", "pocket_word", "pocket_run", "pocket_get", "pocket_close"]
 # The calls of the library: those that are not exported are left out.
 CALLS = re.compile(r"^define (?!internal|private)[^@\n]*@(pocket_\w+)\(", re.M)
-IMPORTS = ["rattle_alloc", "rattle_realloc", "rattle_dealloc"]
+# What the library asks of a heap, or another one in its place.
+IMPORTS = re.compile(r"^declare [^@\n]*@(rattle_\w+)\(", re.M)
 
 
 def with_attributes(text, line, name, attributes):
@@ -54,7 +55,7 @@ def turned(text, exports):
     text = CALLS.sub(lambda it: it[0] if it[1] in exports else it[0].replace("define", "define internal", 1), text)
     for name in exports:
         text = with_attributes(text, "define", name, f'"wasm-export-name"="{name}" ')
-    for name in IMPORTS:
+    for name in IMPORTS.findall(text):
         text = with_attributes(text, "declare", name, f'"wasm-import-module"="env" "wasm-import-name"="{name}" ')
     if "@llvm.x86." in text or "@llvm.aarch64." in text:
         sys.exit("the module has an instruction that WebAssembly has not")
@@ -72,9 +73,9 @@ def with_turns(text):
     return text
 
 
-def make(module, to, kit, exports, for_c=False):
+def make(module, to, kit, exports, for_c=False, left_out=lambda text: text):
     """Writes the WebAssembly module of a module that was kept, with these calls. For C it imports rattle_turn32 and rattle_turn64, which put
-    the bytes of a word in the other order."""
+    the bytes of a word in the other order. Its text can be changed before all else."""
     lower = shutil.which("wasm-opt")
     if not lower:
         sys.exit("library/module.py: the package binaryen, which has wasm-opt, is not there")
@@ -82,7 +83,7 @@ def make(module, to, kit, exports, for_c=False):
     with tempfile.TemporaryDirectory(prefix="pocket-module-") as folder:
         at = lambda name: os.path.join(folder, name)
         with open(at("turned.ll"), "w", encoding="utf-8", errors="surrogateescape") as file:
-            file.write(turned(retarget.text_of(module, f"{tools}/clang", "x86_64-unknown-linux-gnu"), exports))
+            file.write(turned(left_out(retarget.text_of(module, f"{tools}/clang", "x86_64-unknown-linux-gnu")), exports))
         run = lambda *words: subprocess.run(words, check=True, stderr=subprocess.PIPE)
         try:
             if for_c:

@@ -75,8 +75,8 @@ BARE = {
 }
 # Builds in which the big end is wrong: a text of the file, and what stands in its place.
 BACKWARDS = "m + last + SLACK - ({} - BASE) - count"
-WRONG = {"memory.copy backwards, with the big end first": ("memmove(out, place(from), count);",
-                                                           f"memmove(out == place(to) ? {BACKWARDS.format('to')} : out, {BACKWARDS.format('from')}, count);"),
+WRONG = {"memory.copy backwards, with the big end first": ("memmove(out, in, count);", f"memmove(out == place(to) ? {BACKWARDS.format('to')} : out, "
+                                                           f"in == place(from) ? {BACKWARDS.format('from')} : in, count);"),
          "words in the order of the processor": ("__builtin_bswap##bits(value)", "(value)")}
 
 

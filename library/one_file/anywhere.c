@@ -1,7 +1,6 @@
 /* The accesses of what saves and loads a state: in the block, or in the state, which is the caller's. */
 #undef LOAD
 #undef STORE
-#undef memory_copy
 #undef memory_fill
 #define LOAD(bits, cast, to, address, by) do { \
         const u8 *const found = where(m, last, (u32)(address) + (u32)(by), (bits) / 8u); \
@@ -12,11 +11,6 @@
         u8 *const found = where(m, last, (u32)(address) + (u32)(by), (bits) / 8u); \
         if (found == NULL) goto trap; \
         put##bits(found, (u##bits)(value)); \
-    } while (0)
-#define memory_copy(to, from, count) do { \
-        u8 *const one = where(m, last, (u32)(to), (u32)(count)), *const other = where(m, last, (u32)(from), (u32)(count)); \
-        if (one == NULL || other == NULL) goto trap; \
-        memmove(one, other, (u32)(count)); \
     } while (0)
 #define memory_fill(to, value, count) do { \
         u8 *const found = where(m, last, (u32)(to), (u32)(count)); \

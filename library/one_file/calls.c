@@ -38,23 +38,18 @@ static u32 data_bytes(u32 bits) {
 }
 #endif
 
-/* Memory of the heap: the next bytes that are free, since nothing is given back before the handle is closed. */
-static void heap_alloc(u8 *m, u32 last, u64 told, u64 bytes, u64 align) {
+/* Memory of the heap, for an opening, which has all that it asks for: the next bytes that are free, since nothing is given back before
+ * the handle is closed. */
+static u64 heap_place(u8 *m, u32 last, u64 bytes, u64 align) {
     const u32 free_at = ROUNDED(head_of(m, FREE_AT), 8u);
     const u32 end = content_at(kind_of(m), bits_of(m));
-    const bool found = align <= 8u && free_at <= end && bytes <= end - free_at;
-    if (!lie_in(last, (u32)told, 16u)) {
+    (void)last;
+    if (align > 8u || free_at > end || bytes > end - free_at) {
         set_broken(m);
-        return;
+        return 0;
     }
-    put64(place(told), found);
-    put64(place(told) + 8, found ? free_at : 0u);
-    if (found)
-        set_head(m, FREE_AT, free_at + (u32)bytes);
-}
-
-static void heap_dealloc(u8 *m, u32 last, u64 at) {
-    (void)m, (void)last, (void)at;
+    set_head(m, FREE_AT, free_at + (u32)bytes);
+    return free_at;
 }
 
 /* Where so many bytes from an address on are: in the block, or in the room of the caller that the head has; NULL if they are in neither. */
@@ -67,18 +62,29 @@ static u8 *where(u8 *m, u32 last, u32 address, u32 count) {
     return out == NULL || by > room || count > room - by ? NULL : out + by;
 }
 
+/* A copy upon itself is none: the places of all copies lie apart (left_out.py). */
 static bool copied(u8 *m, u32 last, u32 to, u32 from, u32 count) {
-    u8 *out;
+    u8 *const out = where(m, last, to, count);
+    const u8 *const in = where(m, last, from, count);
     if (count == 0)
         return true;
-    if (!lie_in(last, from, count))
+    if (out == NULL || in == NULL || to - from - 1u < count - 1u)
         return false;
-    out = where(m, last, to, count);
-    if (out == NULL)
-        return false;
-    memmove(out, place(from), count);
+    memmove(out, in, count);
     return true;
 }
+
+static bool equal(const u8 *one, const u8 *other, u32 count) {
+    while (count > 0 && *one++ == *other++)
+        count--;
+    return count == 0;
+}
+
+#define memory_equal(to, one, other, count) do { \
+        const u8 *const first = where(m, last, (u32)(one), (u32)(count)), *const second = where(m, last, (u32)(other), (u32)(count)); \
+        if (first == NULL || second == NULL) goto trap; \
+        to = equal(first, second, (u32)(count)); \
+    } while (0)
 /* @generated@ */
 /* The block of a handle. */
 static u8 *block_of(const pocket_handle *handle) {

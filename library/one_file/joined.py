@@ -17,7 +17,7 @@ ENTER = re.compile(rf"^enter\w*\(({NAME}), (\d+)\);$")
 LABEL = re.compile(r"^([BL](?:\d+|func)):;?$")
 GOTO = re.compile(r"goto ([BL](?:\d+|func));")
 # A statement that sets a variable, and those whose sum is known. Casts of numbers of 32 bits and more are the same modulo 2^32.
-SETS = re.compile(rf"^({NAME}) [^ ]*= .*;$|^call\(({NAME}) = .*;$|^(?:i(?:32|64)_load\w*|div_u|rem_u|enter|enter_leaf)\(({NAME}), .*;$")
+SETS = re.compile(rf"^({NAME}) [^ ]*= .*;$|^call\(({NAME}) = .*;$|^(?:i(?:32|64)_load\w*|div_u|rem_u|enter|enter_leaf|memory_equal)\(({NAME}), .*;$")
 COPY = re.compile(rf"^{NAME} = (?:\([us](?:32|64)\))*\(?({NAME})\)?;$")
 NUMBER = re.compile(rf"^{NAME} = (\d+)u(?:ll)?;$")
 SUM = re.compile(rf"^({NAME}) ([+-])= ({NAME});$")

@@ -3,7 +3,7 @@
 receiver, FOLDER/pocket.h, and FOLDER/pocket-program.c, the program.
 
 MODULE is the module that library/retarget.py kept as the library was proved and built for x86-64 (crates/pocket_c/out/module.bc).
-library/module.py turns it to WebAssembly, Debian's wasm2c (the package wabt) turns that to C, and translate.py and joined.py that to the generated part,
+library/module.py turns it to WebAssembly, for the calls without what left_out.py leaves out, Debian's wasm2c (the package wabt) turns that to C, and translate.py and joined.py that to the generated part,
 which is joined with what is written by hand: machine.c, calls.c, state.c, null_checks.c and the library's checked.c for the calls; machine.c, allocator.c, files.c and program.c for the program.
 So the files are compiled another way: compared (tests/test_one_file.py), not proved. Two runs give the same bytes.
 """
@@ -19,6 +19,7 @@ sys.dont_write_bytecode = True
 HERE = os.path.dirname(os.path.abspath(__file__))
 TOP = os.path.dirname(os.path.dirname(HERE))
 sys.path.insert(0, f"{TOP}/library")
+import left_out
 import module
 import translate
 
@@ -68,14 +69,14 @@ def version():
         return re.search(r'^const VERSION: &str = "pocket (.*)";$', file.read(), re.M)[1]
 
 
-def module_of(kept, exports, kit):
+def module_of(kept, exports, kit, **how):
     """What wasm2c writes of the module with these calls."""
     tool = shutil.which("wasm2c")
     if not tool:
         sys.exit("library/one_file/make.py: the package wabt, which has wasm2c, is not there")
     with tempfile.TemporaryDirectory(prefix="pocket-one-file-") as folder:
         wasm, made = os.path.join(folder, "pocket.wasm"), os.path.join(folder, "pocket.c")
-        module.make(kept, wasm, kit, exports, for_c=True)
+        module.make(kept, wasm, kit, exports, for_c=True, **how)
         subprocess.run([tool, wasm, "-n", "pocket", "-o", made], check=True)
         with open(made, encoding="utf-8") as text:
             return text.read()
@@ -120,7 +121,7 @@ def check_stack(deepest):
 
 def calls(kept, kit):
     """The text of pocket.c."""
-    text = module_of(kept, SENDER + RECEIVER + STATES, kit)
+    text = module_of(kept, SENDER + RECEIVER + STATES, kit, left_out=left_out.of)
     code, states = translate.module_of(text, "code", joins=True), translate.module_of(text, "state", joins=False)
     deepest = code.deepest(SENDER + RECEIVER + STATES)
     check_stack(deepest)

@@ -25,7 +25,8 @@ LOAD = re.compile(rf"^({VALUE}) = (i(?:32|64)_load(?:8_u|8_s|16_u|16_s|32_u|32_s
 STORE = re.compile(rf"^(i(?:32|64)_store(?:8|16|32)?)\({MEMORY}, \(u64\)\((w2c_i\d+)\)(?: \+ (\d+))?, ({VALUE})\);$")
 BULK = re.compile(rf"^memory_(fill|copy)\((?:{MEMORY}, )+({VALUE}), ({VALUE}), ({VALUE})\);$")
 CALL = re.compile(rf"^(?:({VALUE}) = )?w2c_(\w+)\(instance((?:, {VALUE})*)\);$")
-IMPORT = re.compile(rf"^\(\*Z_envZ_rattle_(\w+)\)\(instance->Z_env_instance((?:, {VALUE})*)\);$")
+IMPORT = re.compile(rf"^(?:({VALUE}) = )?\(\*Z_envZ_rattle_(alloc|realloc|dealloc|place)\)\(instance->Z_env_instance((?:, {VALUE})*)\);$")
+EQUAL = re.compile(rf"^({VALUE}) = \(\*Z_envZ_rattle_equal\)\(instance->Z_env_instance, ({VALUE}), ({VALUE}), ({VALUE})\);$")
 TURN = re.compile(rf"^({VALUE}) = \(\*Z_envZ_rattle_(turn(?:32|64))\)\(instance->Z_env_instance, ({VALUE})\);$")
 DIVISION = re.compile(rf"^({VALUE}) = (DIV|REM)_U\(({VALUE}), ({VALUE})\);$")
 STACK = re.compile(rf"^instance->w2c_g0 = ({VALUE});$")
@@ -43,6 +44,8 @@ PLAIN = re.compile("|".join((
 LABEL = re.compile(r"^w2c_[BL](?:\d+|func):;?$")
 ENTRY = re.compile(
     r"^  w2c_j0 = instance->w2c_g0;\n  w2c_j1 = (\d+)ull;\n  w2c_j0 -= w2c_j1;\n  (w2c_[lp]\d+) = w2c_j0;\n(  instance->w2c_g0 = w2c_j0;\n)?", re.M)
+# The cases of a switch, and whither all other numbers lead: a case that leads there too is left out.
+SWITCH = re.compile(rf"^ *switch \(w2c_i\d+\) \{{\n(?: *case \d+: {GOTO}\n)* *default: ({GOTO})\n", re.M)
 # A frame's address that nothing uses: the next value takes its place.
 UNUSED = re.compile(r"^  w2c_j0 = instance->w2c_g0;\n  w2c_j1 = \d+ull;\n  w2c_j0 -= w2c_j1;\n(?=  w2c_j0 = (?!w2c_j))", re.M)
 # The same of a function that calls no other one, if other values are read before the frame's address is reckoned.
@@ -119,7 +122,9 @@ def made(function, line):
     if found := BULK.match(line):
         return f"memory_{found[1]}({found[2]}, {found[3]}, {found[4]});"
     if found := IMPORT.match(line):
-        return f"call(heap_{found[1]}(m, last{found[2]}));"
+        return f"call({found[1] + ' = ' if found[1] else ''}heap_{found[2]}(m, last{found[3]}));"
+    if found := EQUAL.match(line):
+        return f"memory_equal({found[1]}, {found[2]}, {found[3]}, {found[4]});"
     if found := CALL.match(line):
         function.calls.add(found[2])
         return f"call({found[1] + ' = ' if found[1] else ''}{function.module}_{found[2]}(m, last{found[3]}));"
@@ -160,6 +165,7 @@ def frame_of(function, text):
 def filled(function, text, joins):
     """Makes the text of a function from what wasm2c wrote between its braces."""
     locals_, lines = [], []
+    text = SWITCH.sub(lambda it: re.sub(rf"^ *case \d+: {it[1]}\n", "", it[0], flags=re.M), text)
     for line in frame_of(function, text).split("\n"):
         if LOCALS.match(line):
             locals_.append(short(line))

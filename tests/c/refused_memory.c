@@ -1,7 +1,8 @@
 /* Each allocation refused in turn: the opening answers it, the handle holds nothing, nothing is leaked; and no later call takes any, nor does a reset.
  * Then each allocation of a desk, from its opening to the end of a command: the call answers it, or the command is refused with 5, or
  * with 1 if it is what it writes that can't be kept, and nothing is kept then. A get, a name and a removal take none; a removal gives some back.
- * Linked with --wrap=malloc,--wrap=realloc,--wrap=free. The numbers of bits are its words; it prints the bytes of each. */
+ * Linked with --wrap=malloc,--wrap=realloc,--wrap=free. The numbers of bits are its words; it prints the bytes of each. With POCKET_NO_DESK
+ * it takes no desk, as the one file has none. */
 #include "pocket.h"
 #include <stdio.h>
 #include <stdlib.h>
@@ -110,6 +111,29 @@ static void again(pocket_handle *sender, pocket_handle *receiver, uint32_t bits)
     check(pocket_close(&new_sender) == POCKET_DONE && pocket_close(&new_receiver) == POCKET_DONE);
 }
 
+#ifdef POCKET_NO_DESK
+/* Memory of the caller, which the one file alone takes: a byte too little is refused, and what else is wrong is told first. */
+static void given_memory(void)
+{
+    static uint8_t memory[POCKET_SENDER_BYTES(13)];
+    static const uint8_t mask[2] = {0x0F, 0xF8}, spare[2] = {0x0F, 0xFC};
+    pocket_handle handle = POCKET_NOTHING;
+    const size_t sender = pocket_sender_bytes(13), receiver = pocket_receiver_bytes(13);
+
+    check(sender == sizeof memory && receiver == POCKET_RECEIVER_BYTES(13) && receiver < sender);
+    check(pocket_sender_bytes(0) == 0 && pocket_receiver_bytes(POCKET_MOST_BITS + 1) == 0);
+    check(pocket_sender_open_in(&handle, memory, sender - 1, 13, mask, 2) == POCKET_NO_MEMORY);
+    check(pocket_receiver_open_in(&handle, memory, receiver - 1, 13) == POCKET_NO_MEMORY);
+    check(pocket_sender_open_in(&handle, memory, 0, 13, spare, 2) == POCKET_MASK_SPARE_BIT);
+    check(pocket_sender_open_in(&handle, memory, 0, 13, mask, 1) == POCKET_MASK_LENGTH);
+    check(pocket_sender_open_in(&handle, memory, 0, 0, NULL, 0) == POCKET_BITS && pocket_receiver_open_in(&handle, memory, 0, 0) == POCKET_BITS);
+    check(pocket_sender_open_in(NULL, memory, sender, 13, mask, 2) == POCKET_NULL && pocket_receiver_open_in(&handle, NULL, receiver, 13) == POCKET_NULL);
+    check(handle.at == NULL && pocket_sender_open_in(&handle, memory, sender, 13, mask, 2) == POCKET_DONE);
+    check(pocket_sender_open_in(&handle, memory, sender, 13, mask, 2) == POCKET_IS_OPEN);
+    check(pocket_receiver_open_in(&handle, memory, receiver, 13) == POCKET_IS_OPEN && pocket_close(&handle) == POCKET_DONE);
+    check(pocket_receiver_open_in(&handle, memory, receiver, 13) == POCKET_DONE && pocket_close(&handle) == POCKET_DONE);
+}
+#else
 /* Opens a desk and runs a command at it, to the first answer that is not POCKET_DONE. */
 static pocket_status command(pocket_handle *desk, uint8_t *exit_number)
 {
@@ -162,6 +186,7 @@ static void at_desk(void)
     check(pocket_close(&desk) == POCKET_DONE && held == 0);
     printf("a desk: %ld allocations\n", calls);
 }
+#endif
 
 int main(int count, char **words)
 {
@@ -196,7 +221,11 @@ int main(int count, char **words)
         check(pocket_close(&sender) == POCKET_DONE && held == -of_sender);
         printf("%u bits: a sender %zu bytes, a receiver %zu\n", (unsigned)bits, sends, receives);
     }
+#ifdef POCKET_NO_DESK
+    given_memory();
+#else
     at_desk();
+#endif
     printf("%lu passed, %lu failed\n", passed, failed);
     return failed != 0;
 }

@@ -1,4 +1,5 @@
-/* What pocket.h says of numbers, counts and restarts, of versions, texts and headers: each sentence is tried, from C. */
+/* What pocket.h says of numbers, counts and restarts, of versions, texts and headers: each sentence is tried, from C. With
+ * POCKET_NO_DESK those of a desk are left out, as the one file has none. */
 #include "pocket.h"
 #include <stdio.h>
 #include <string.h>
@@ -149,10 +150,13 @@ static void numbers(void)
     check(pocket_bits(&sender, &bits) == POCKET_IS_CLOSED && bits == BITS && pocket_sent(&sender, &sent) == POCKET_IS_CLOSED && sent == 5, "a closed sender");
     check(pocket_bits(NULL, &bits) == POCKET_NULL && pocket_sent(NULL, &sent) == POCKET_NULL, "null has no bits");
     check(pocket_bits(&sender, NULL) == POCKET_NULL && pocket_sent(&sender, NULL) == POCKET_NULL, "bits to null");
+#ifndef POCKET_NO_DESK
     check(pocket_desk_open(&sender) == POCKET_DONE && pocket_bits(&sender, &bits) == POCKET_OTHER_KIND && pocket_sent(&sender, &sent) == POCKET_OTHER_KIND, "a desk has no bits");
     pocket_close(&sender);
+#endif
 }
 
+#ifndef POCKET_NO_DESK
 static void command(pocket_handle *desk, const char *words)
 {
     char word[64], text[POCKET_TEXT_BYTES];
@@ -197,6 +201,7 @@ static void out_of_order(void)
     pocket_close(&desk);
     close_both(&sender, &receiver);
 }
+#endif
 
 /* How many of fifty packets after a restart are right, wrong in their content, and unwritten, if the first ones are lost. */
 typedef struct fates {
@@ -256,6 +261,7 @@ static void restarts(void)
     check(wrong > 0, "with the counts going on contents are given that were not sent");
 }
 
+#ifndef POCKET_NO_DESK
 /* Each flag by the letter that the program has for it, which is that of the standard. */
 static void letters(void)
 {
@@ -285,15 +291,18 @@ static void letters(void)
         pocket_close(&sender);
     }
 }
+#endif
 
 int main(void)
 {
     texts();
     headers();
     numbers();
-    out_of_order();
     restarts();
+#ifndef POCKET_NO_DESK
+    out_of_order();
     letters();
+#endif
     printf("%lu passed, %lu failed\n", passed, failed);
     return failed != 0;
 }

@@ -10,7 +10,7 @@ enum { MOST = 200, CALLS = 100, HEAD = 10, MOST_BYTES = POCKET_INPUT_BYTES(MOST)
 static unsigned long passed, failed, taken;
 static uint64_t seed = 88172645463325252u;
 static uint8_t before[ROOM], after[ROOM], state[ROOM + 16];
-static const uint32_t bits_tried[] = { 1, 7, 8, 13, 64, 100, MOST };
+static const uint32_t bits_tried[] = { 1, 7, 8, 13, 32, 47, 56, 64, 100, MOST };
 
 static void check(bool held, const char *what, unsigned long number)
 {
@@ -79,7 +79,7 @@ static void vector_in(uint8_t *to, uint32_t bits, unsigned noise)
 }
 
 /* A call: it answers what a call may answer. */
-static void calls(end *one, unsigned number)
+static pocket_status calls(end *one, unsigned number)
 {
     uint8_t input[MOST_BYTES], data[POCKET_PACKET_BYTES(MOST)], content[MOST_BYTES], level;
     size_t length = 0;
@@ -90,13 +90,14 @@ static void calls(end *one, unsigned number)
         status = pocket_send(&one->handle, input, POCKET_INPUT_BYTES(one->bits), number % 5 == 4, number % 7 == 3, number % 11 == 5, (uint8_t)(number % 8), data,
                              POCKET_PACKET_BYTES(one->bits), &length, &level);
         check(status == POCKET_TOO_MANY || (status == POCKET_DONE && length >= 1 && length <= POCKET_PACKET_BYTES(one->bits) && level <= 15), "a send", number);
-        return;
+        return status;
     }
     length = 1 + drawn(40);
     for (size_t at = 0; at < length; at++)
         data[at] = (uint8_t)drawn(256);
     status = pocket_receive(&one->handle, (uint16_t)drawn(16384), data, length, content, POCKET_INPUT_BYTES(one->bits), &finding);
     check(status == POCKET_TOO_MANY || (status == POCKET_DONE && finding.kind <= POCKET_EARLY), "a receive", number);
+    return status;
 }
 
 /* Bytes are loaded: they are refused and nothing changes, or they are what is saved then. */
@@ -186,6 +187,23 @@ static void damages(end *one)
     check(pocket_load(&one->handle, state, length + 1) == POCKET_NO_STATE, "a longer state", at);
 }
 
+/* The state of an end, but that it took so many packets, is loaded. */
+static void renumber(end *one, uint64_t packets)
+{
+    const size_t length = saved(one, state);
+    put(state + HEAD + (one->kind == POCKET_OF_SENDER ? 0 : 8), packets, 8);
+    put(state + length - 4, sum_of(state, length - 4), 4);
+    loads(one, state, length, false);
+}
+
+/* An end takes the packets that are left up to 4,294,967,296, and no more. */
+static void took(end *one, uint64_t packets)
+{
+    for (renumber(one, packets); packets < (uint64_t)1 << 32; packets++)
+        check(calls(one, (unsigned)packets) == POCKET_DONE, "a packet before the last one", one->bits);
+    check(calls(one, 1) == POCKET_TOO_MANY && calls(one, 2) == POCKET_TOO_MANY, "a packet after the last one", one->bits);
+}
+
 static void tries(uint32_t kind, uint32_t bits, unsigned long count)
 {
     end one = opened(kind, bits), other = opened(kind == POCKET_OF_SENDER ? POCKET_OF_RECEIVER : POCKET_OF_SENDER, bits);
@@ -195,11 +213,17 @@ static void tries(uint32_t kind, uint32_t bits, unsigned long count)
         calls(&one, number);
         if (number % 15 == 0)
             damages(&one);
+        if (number % 10 == 9)
+            renumber(&one, 0);
     }
     length = saved(&one, state);
     check(pocket_load(&other.handle, state, length) == POCKET_OTHER_STATE, "a state of the other kind", bits);
     for (; count > 0; count--)
         loads(&one, state, grown(&one), count % 10 == 0);
+    took(&one, 4294967294u), took(&one, (uint64_t)1 << 32);
+    check(pocket_save(NULL, after, ROOM, &length) == POCKET_NULL && pocket_save(&one.handle, NULL, ROOM, &length) == POCKET_NULL &&
+          pocket_save(&one.handle, after, ROOM, NULL) == POCKET_NULL && pocket_load(NULL, after, 1) == POCKET_NULL &&
+          pocket_load(&one.handle, NULL, 1) == POCKET_NULL, "null", bits);
     pocket_close(&one.handle), pocket_close(&other.handle);
     check(pocket_load(&one.handle, state, length) == POCKET_IS_CLOSED && pocket_save(&one.handle, after, ROOM, &length) == POCKET_IS_CLOSED, "a closed handle", bits);
 }

@@ -1,4 +1,5 @@
-/* Worked packets, each wrong argument with nothing changed after it, and no memory taken after opening, from C. */
+/* Worked packets, each wrong argument with nothing changed after it, and no memory taken after opening, from C. With POCKET_NO_DESK it
+ * takes no desk, as the one file has none. */
 #include "pocket.h"
 #include <stdio.h>
 #include <stdlib.h>
@@ -221,6 +222,7 @@ static void flags(void)
     check(pocket_close(&first) == POCKET_DONE && pocket_close(&second) == POCKET_DONE && pocket_close(&third) == POCKET_DONE, "three ends");
 }
 
+#ifndef POCKET_NO_DESK
 /* The store of the four inputs, and what is restored and reported if packet 2 is lost. */
 static const uint8_t store[37] = {0x00, 0x64, 0xC0, 0, 0, 3, 0x85, 0xB8, 0xD6, 0x00, 0x00, 0x64, 0xC0, 1, 0, 3, 0x42, 0x4B, 0x8D, 0x62,
                                   0x00, 0x64, 0xC0, 2, 0, 1, 0x44, 0xC0, 0x00, 0x64, 0xC0, 3, 0, 2, 0xC0, 0x85, 0xC0};
@@ -372,6 +374,7 @@ static void desk(void)
     runs(&held, 2, "word 0 is wrong");
     check(pocket_close(&held) == POCKET_DONE && pocket_close(&held) == POCKET_IS_CLOSED && pocket_close(&sender) == POCKET_DONE, "its end");
 }
+#endif
 
 int main(void)
 {
@@ -379,7 +382,9 @@ int main(void)
     worked();
     spare();
     flags();
+#ifndef POCKET_NO_DESK
     desk();
+#endif
     printf("%lu passed, %lu failed\n", passed, failed);
     return failed != 0;
 }
