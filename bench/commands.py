@@ -5,6 +5,8 @@ import os
 import measure
 import recordings
 
+STREAMS, WINDOW, FIELDS = 8, 8, 40
+
 
 class Bench:
     """The program, and a folder in which all files of a run lie."""
@@ -24,28 +26,28 @@ class Bench:
         named = (f"{key}={self.at(str(value)[1:]) if str(value).startswith('@') else value}" for key, value in keys.items())
         return [self.program, verb, *named]
 
-    def compress(self, bits, schedule="", rec="rec", out="store", apid=100):
+    def compress(self, bits, schedule="", apid=100):
         """The words of compress; its schedule is written."""
         recordings.write(self.at("plan"), schedule)
         plan = {"plan": "@plan"} if schedule else {}
-        return self.words("compress", **{"in": f"@{rec}"}, out=f"@{out}", bits=bits, apid=apid, robust=2, **plan)
+        return self.words("compress", **{"in": "@rec"}, out="@store", bits=bits, apid=apid, robust=2, **plan)
 
-    def restore(self, bits, store="store"):
-        return self.words("restore", **{"in": f"@{store}"}, out="@restored", report="@report", bits=bits, apid=100)
+    def restore(self, bits):
+        return self.words("restore", **{"in": "@store"}, out="@restored", report="@report", bits=bits, apid=100)
 
-    def store(self, bits, packets, schedule="", apid=100):
-        """Makes a quiet recording and its store."""
-        recordings.record(self.at("rec"), bits, packets)
-        measure.used(self.compress(bits, schedule, apid=apid))
+    def store(self, packets, apid=100):
+        """Makes a quiet recording of packets of 1,024 bits and its store."""
+        recordings.record(self.at("rec"), 1024, packets)
+        measure.used(self.compress(1024, apid=apid))
 
 
-def prepared(bench, packets, streams=8, window=8, fields=40):
+def prepared(bench, packets):
     """Makes the inputs of all verbs, of so many quiet packets of 1,024 bits, and gives the words of each."""
-    bench.store(1024, (packets + streams - 1) // streams, apid=0)
-    recordings.write_joined(bench.at("joined"), recordings.read(bench.at("store")), streams, packets)
-    bench.store(1024, packets)
-    recordings.write_late(bench.at("late"), recordings.read(bench.at("store")), window)
-    for name, text in (("streams", recordings.streams_text(streams, 1024)), ("fields", recordings.fields_text(fields, 1024)),
+    bench.store((packets + STREAMS - 1) // STREAMS, apid=0)
+    recordings.write_joined(bench.at("joined"), recordings.read(bench.at("store")), STREAMS, packets)
+    bench.store(packets)
+    recordings.write_late(bench.at("late"), recordings.read(bench.at("store")), WINDOW)
+    for name, text in (("streams", recordings.streams_text(STREAMS, 1024)), ("fields", recordings.fields_text(FIELDS, 1024)),
                        ("script", recordings.SCRIPT), ("plan", recordings.SCHEDULE)):
         recordings.write(bench.at(name), text)
     read = lambda name: {"in": f"@{name}"}
@@ -55,9 +57,9 @@ def prepared(bench, packets, streams=8, window=8, fields=40):
         "play": bench.words("play", **read("store"), out="@played", report="@report", apid=100, script="@script"),
         "restore": bench.words("restore", **read("store"), out="@copy", report="@report", **of),
         "show": bench.words("show", **read("store"), out="@copy", **of),
-        f"late, window={window}": bench.words("late", **read("late"), out="@copy", report="@report", window=window, **of),
-        f"multi, {streams} streams": bench.words("multi", **read("joined"), out="@copy", report="@report", streams="@streams"),
-        f"table, {fields} fields": bench.words("table", **read("rec"), out="@copy", report="@report", fields="@fields", bits=1024),
+        f"late, window={WINDOW}": bench.words("late", **read("late"), out="@copy", report="@report", window=WINDOW, **of),
+        f"multi, {STREAMS} streams": bench.words("multi", **read("joined"), out="@copy", report="@report", streams="@streams"),
+        f"table, {FIELDS} fields": bench.words("table", **read("rec"), out="@copy", report="@report", fields="@fields", bits=1024),
         "trial": bench.words("trial", seed=1, packets=min(packets, 10_000), bits=1024, robust=2, out="@copy"),
         "forecast": bench.words("forecast", out="@copy", packets=packets, robust=2, plan="@plan", script="@script"),
     }

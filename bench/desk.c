@@ -1,4 +1,4 @@
-/* desk: how deep the stack of pocket_run is for each verb, what it calls of the C library included, for bench/library.py. The commands work
+/* desk: how deep the stack of pocket_run is for each verb, what it calls of the C library included, for tests/test_library.py. The commands work
  * on two hundred packets of 1,024 bits, of which some are lost. It prints each verb and its bytes.
  */
 #define _XOPEN_SOURCE 700

@@ -1,5 +1,5 @@
 #!/usr/bin/env python3
-"""fleet.py POCKET [SPACECRAFT PACKETS]: the tables of many spacecraft (library/examples/fleet) for docs/BENCHMARK.md: packets that are fed
+"""fleet.py POCKET [SPACECRAFT PACKETS]: the table of many spacecraft (library/examples/fleet) for docs/BENCHMARK.md: packets that are fed
 first, as a burst of files and as live ones, and then judged by 1, 2 and 4 workers. It takes redis-server, the system's Python with
 python3-redis, and POCKET_LIBRARY."""
 
@@ -12,6 +12,7 @@ import tempfile
 import time
 
 sys.path.insert(0, os.path.join(os.path.dirname(os.path.dirname(os.path.abspath(__file__))), "tests"))
+import measure
 from fleet_parts import APIDS, FLEET, Engine, Fleet, begun, pieces, ran
 
 sys.path.insert(0, FLEET)
@@ -63,17 +64,25 @@ def judged(fleet, engine, workers, fed_by):
     return spent_first, fed - before, full - empty, seconds, spent, after - fed, found - empty, used(engine)[1] - empty
 
 
-def table(fleet, engine, title, fed_by):
-    """Prints the table of packets that are fed in one way."""
+HEADS = ["Fed as", "Workers", "Packets a second", "Microseconds of a processor for a packet: feeder", "worker", "engine",
+         "Bytes of the engine for a spacecraft", "for a packet to judge", "for a packet to read"]
+
+
+def rows(fleet, engine, way, fed_by):
+    """The rows of packets that are fed in one way."""
     count = sum(len(list(pieces(store))) for store in fleet.stores.values())
-    print(f"\n## Many spacecraft: {title}\n")
-    print("| Workers | Seconds for all | Packets a second | Microseconds of a processor for a packet: feeder | worker | engine, to feed | to judge "
-          "| Bytes of the engine for a spacecraft | for a packet to judge | for a packet to read |\n|---|---|---|---|---|---|---|---|---|---|")
     for workers in (1, 2, 4):
         first, fed, full, seconds, spent, worked, found, states = judged(fleet, engine, workers, fed_by)
-        cells = [workers, f"{seconds:.1f}", f"{count / seconds:,.0f}", *(f"{one / count * 1e6:.1f}" for one in (first, spent, fed, worked)),
-                 f"{states / len(fleet.names):,.0f}", f"{full / count:,.0f}", f"{(found - states) / count:,.0f}"]
-        print("|", " | ".join(map(str, cells)), "|", flush=True)
+        yield way, workers, f"{count / seconds:,.0f}", *(f"{one / count * 1e6:.1f}" for one in (first, spent, fed + worked)), \
+            f"{states / len(fleet.names):,.0f}", f"{full / count:,.0f}", f"{(found - states) / count:,.0f}"
+
+
+def each(folder, engine, program, number, packets):
+    """The rows of both ways."""
+    for way, fed_by, many in (("files", fed_whole, packets), ("live packets", fed_live, packets // 10)):
+        fleet = Fleet(program, folder, number, many)
+        fleet.grow(1, 1)
+        yield from rows(fleet, engine, way, fed_by)
 
 
 def main():
@@ -83,10 +92,7 @@ def main():
         engine.start()
         print(f"Measured by `bench/fleet.py` on {time.strftime('%Y-%m-%d')}: {os.cpu_count()} processors, load {os.getloadavg()[0]:.1f}.")
         try:
-            for title, fed_by, many in (("a burst of files", fed_whole, packets), ("live packets", fed_live, packets // 10)):
-                fleet = Fleet(os.path.abspath(sys.argv[1]), folder, number, many)
-                fleet.grow(1, 1)
-                table(fleet, engine, title, fed_by)
+            measure.show_table("Many spacecraft", HEADS, each(folder, engine, os.path.abspath(sys.argv[1]), number, packets))
         finally:
             engine.kill()
 

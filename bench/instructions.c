@@ -1,10 +1,15 @@
-/* A plugin of qemu-user, of the interface that Debian's qemu 7.2 has: counts the instructions of a program, and prints their number as
- * its last line on standard error. Only what it needs of qemu-plugin.h, which Debian does not hand out, is declared here. */
+/* A plugin of qemu, of the interface that Debian's qemu 7.2 has: counts the instructions of a program, and prints their number as
+ * its last line on standard error, and before, each time that its function `mark` is called. Only what it needs of qemu-plugin.h, which Debian
+ * does not hand out, is declared here. */
 #include <inttypes.h>
 #include <stddef.h>
 #include <stdio.h>
+#include <string.h>
 
 struct qemu_plugin_tb;
+struct qemu_plugin_insn;
+struct qemu_plugin_insn *qemu_plugin_tb_get_insn(const struct qemu_plugin_tb *block, size_t at);
+const char *qemu_plugin_insn_symbol(const struct qemu_plugin_insn *one);
 size_t qemu_plugin_tb_n_insns(const struct qemu_plugin_tb *block);
 void qemu_plugin_register_vcpu_tb_trans_cb(uint64_t plugin, void (*call)(uint64_t plugin, struct qemu_plugin_tb *block));
 void qemu_plugin_register_vcpu_tb_exec_cb(struct qemu_plugin_tb *block, void (*call)(unsigned int processor, void *given), int flags, void *given);
@@ -19,9 +24,19 @@ static void ran(unsigned int processor, void *count)
     instructions += (uintptr_t)count;
 }
 
+static void marked(unsigned int processor, void *given)
+{
+    (void)processor;
+    (void)given;
+    fprintf(stderr, "mark %" PRIu64 "\n", instructions);
+}
+
 static void translated(uint64_t plugin, struct qemu_plugin_tb *block)
 {
+    const char *name = qemu_plugin_insn_symbol(qemu_plugin_tb_get_insn(block, 0));
     (void)plugin;
+    if (name && strcmp(name, "mark") == 0)
+        qemu_plugin_register_vcpu_tb_exec_cb(block, marked, 0, NULL);
     qemu_plugin_register_vcpu_tb_exec_cb(block, ran, 0, (void *)(uintptr_t)qemu_plugin_tb_n_insns(block));
 }
 

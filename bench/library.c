@@ -1,11 +1,9 @@
 /* library BITS KIND PACKETS WHAT: sends packets by the library, and receives them, for bench/library.py.
  *
  * KIND, how the inputs move: calm, one bit turns in each sixteenth packet; noisy, each bit turns with the chance 1/8; turned, all bits
- * turn, and the mask and the whole content are sent; dearest, in each byte the bits of CC and of 66 turn, in turn, and each packet makes a
- * new mask and carries it and its whole content, so that every second bit is an edge of the mask and a recent change. The required
- * robustness is 2, BITS a multiple of 8.
+ * turn, and the mask and the whole content are sent. The required robustness is 2, BITS a multiple of 8.
  *
- * WHAT: inputs, which makes these alone; write, which writes them; send; receive, of all that is sent; stack, which tells how deep each
+ * WHAT: inputs, which makes these alone; send; receive, of all that is sent; stack, which tells how deep each
  * call goes, what it calls of the C library included, compares the contents, and tells what the heap was asked for. It is linked with
  * -Wl,--wrap=rattle_alloc, so that that is seen. Instructions are counted from outside, as the difference of runs.
  */
@@ -22,7 +20,7 @@ struct place __wrap_rattle_alloc(size_t bytes, size_t align);
 static uint8_t input[6144], data[1 << 16], content[6144];
 static uint32_t bits, status, number;
 static size_t asked, bytes, length;
-static bool calm, turned, dearest, looks;
+static bool calm, turned, looks;
 static pocket_handle sender = POCKET_NOTHING, receiver = POCKET_NOTHING;
 
 struct place __wrap_rattle_alloc(size_t size, size_t align)
@@ -49,8 +47,7 @@ static void open_receiver(void)
 static void send_one(void)
 {
     uint8_t level;
-    bool whole = turned || dearest;
-    status |= pocket_send(&sender, input, bytes, dearest, whole, whole, 2, data, sizeof data, &length, &level);
+    status |= pocket_send(&sender, input, bytes, false, turned, turned, 2, data, sizeof data, &length, &level);
 }
 
 static void receive_one(void)
@@ -94,9 +91,9 @@ __attribute__((noinline)) static void move(void)
 {
     if (calm)
         input[0] ^= number % 16 == 1;
-    else if (turned || dearest)
+    else if (turned)
         for (size_t at = 0; at < bytes; at++)
-            input[at] ^= turned ? 0xFF : number % 2 ? 0x66 : 0xCC;
+            input[at] ^= 0xFF;
     else
         for (size_t at = 0; at < bytes; at++)
             input[at] ^= (uint8_t)noise();
@@ -111,10 +108,9 @@ int main(int words, char **word)
     bytes = POCKET_INPUT_BYTES(bits);
     calm = is(word[2], "calm");
     turned = is(word[2], "turned");
-    dearest = is(word[2], "dearest");
     looks = is(word[4], "stack");
     uint32_t packets = (uint32_t)strtoul(word[3], NULL, 10);
-    bool writes = is(word[4], "write"), receives = looks || is(word[4], "receive"), sends = receives || is(word[4], "send");
+    bool receives = looks || is(word[4], "receive"), sends = receives || is(word[4], "send");
     base = looks ? depth_of(nothing) : 0;
     make(open_sender, &deepest[0]);
     of_sender = asked;
@@ -122,8 +118,6 @@ int main(int words, char **word)
     of_receiver = asked - of_sender;
     for (number = 0; number < packets && !status; number++) {
         move();
-        if (writes)
-            fwrite(input, bytes, 1, stdout);
         if (sends)
             make(send_one, &deepest[2]);
         if (receives)

@@ -1,10 +1,10 @@
 #!/usr/bin/env python3
 """Measures the library for C on each processor, and prints the tables of docs/BENCHMARK.md: python3 bench/library.py > tables.md
 
-At the top, after the gate's proofs (crates/pocket_c/out and crates/pocket/out); with --unaligned the libraries that leave accesses which are
+At the top, after the gate's proofs (crates/pocket_c/out); with --unaligned the libraries that leave accesses which are
 not aligned to the processor are measured too. It takes gcc, Debian's cross compilers and qemu-user, and prints what is left out without them.
 The libraries of other processors are built if they are not there (library/targets.mk). Instructions are counted by a plugin of qemu-user
-(instructions.c), on x86-64 too, and those of the program beside by valgrind; they are the same in each run, and no times.
+(instructions.c), on x86-64 too; they are the same in each run, and no times.
 """
 
 import argparse
@@ -16,7 +16,6 @@ import sys
 import tempfile
 
 import measure
-from recordings import LAST
 
 HERE = os.path.dirname(os.path.abspath(__file__))
 TOP = os.path.dirname(HERE)
@@ -25,9 +24,10 @@ EMULATORS = {NATIVE: "qemu-x86_64", "aarch64": "qemu-aarch64", "riscv64": "qemu-
 ALONE = "pocket_sender_open pocket_send pocket_receiver_open pocket_receive pocket_counts pocket_close".split()
 FLAGS = "-std=c99 -Wall -Wextra -pedantic -Werror -O2 -static -Wl,--gc-sections -Wl,--wrap=rattle_alloc".split()
 
-# How many packets are counted, by their bits, and the kinds of inputs, each with the flags of the program's schedule.
-COUNTED = {8: 1600, 64: 1600, 1024: 480, 8192: 160, 49_152: 32}
-KINDS = {"calm": "", "noisy": "", "turned": "fr", "dearest": "pfr"}
+# The bits of an input; how many packets of 1,024 bits are counted, and the kinds of inputs.
+BITS = 8, 1024, 49_152
+COUNTED = 480
+KINDS = "calm", "noisy", "turned"
 
 
 class Processor:
@@ -53,9 +53,7 @@ class Processor:
 
     def build(self):
         beside = [f"{TOP}/library/{name}.c" for name in ("checked", "checked_desk", "heap")] + [self.library]
-        for source, made in (("library", self.driver), ("desk", self.driver + "-desk")):
-            wrapped = FLAGS if source == "library" else [it for it in FLAGS if "wrap" not in it]
-            subprocess.run([self.tools + "gcc", *wrapped, "-o", made, f"{HERE}/{source}.c", *beside], check=True)
+        subprocess.run([self.tools + "gcc", *FLAGS, "-o", self.driver, f"{HERE}/library.c", *beside], check=True)
 
     def sections(self, path):
         """The bytes of text and constants in a file of objects, and those of its data."""
@@ -79,13 +77,12 @@ class Processor:
             sys.exit(f"{' '.join(words)}: {run.returncode} {run.stderr[-300:]}")
         return int(found.group(1))
 
-    def calls(self, bits, kind):
+    def calls(self, kind):
         """The instructions of a send and of a receive: what one packet more costs, without the making of its input."""
-        packets = COUNTED[bits]
         costs = []
         for what in ("inputs", "send", "receive"):
-            once, twice = (self.count([self.driver, str(bits), kind, str(turn * packets), what]) for turn in (1, 2))
-            costs.append((twice - once) / packets)
+            once, twice = (self.count([self.driver, "1024", kind, str(turn * COUNTED), what]) for turn in (1, 2))
+            costs.append((twice - once) / COUNTED)
         return round(costs[1] - costs[0]), round(costs[2] - costs[1])
 
     def stack(self, bits, kind):
@@ -97,32 +94,11 @@ class Processor:
             sys.exit(f"{self.name}: a send or a receive asked for memory")
         return found
 
-    def commands(self):
-        """The deepest stack of pocket_run for each verb."""
-        told = subprocess.run([self.emulator, self.driver + "-desk"], check=True, capture_output=True, text=True).stdout.split()
-        return {verb: int(depth) for verb, depth in zip(told[::2], told[1::2])}
-
-
-def by_program(native, program, bits, kind):
-    """The instructions that one packet more costs compress and restore, of the same inputs, as valgrind counts them."""
-    at, packets, counts = lambda name: os.path.join(native.folder, name), COUNTED[bits], []
-    with open(at("plan"), "w", encoding="ascii") as out:
-        out.write(f"0,{LAST},1,{KINDS[kind]}\n" if KINDS[kind] else "")
-    for turn in (1, 2):
-        with open(at("rec"), "wb") as out:
-            subprocess.run([native.driver, str(bits), kind, str(turn * packets), "write"], check=True, stdout=out)
-        told = [f"bits={bits}", "apid=100"]
-        compress = ["compress", f"in={at('rec')}", f"out={at('store')}", f"plan={at('plan')}", "robust=2", *told]
-        restore = ["restore", f"in={at('store')}", f"out={at('restored')}", f"report={at('report')}", *told]
-        counts.append([measure.instructions([program, *words]) for words in (compress, restore)])
-    return [round((twice - once) / packets) for once, twice in zip(*counts)]
-
-
 def sizes(processors):
     """The rows of sizes and stacks."""
     alone = [it.alone() for it in processors]
     whole = [it.sections(it.library) for it in processors]
-    deep = [[it.stack(bits, kind) for bits in (8, 1024, 49_152) for kind in KINDS] for it in processors]
+    deep = [[it.stack(bits, kind) for bits in BITS for kind in KINDS] for it in processors]
     yield "senders and receivers alone: text and constants", *(text for text, _ in alone)
     yield "their data", *(data for _, data in alone)
     yield "the whole library: text and constants", *(text for text, _ in whole)
@@ -133,21 +109,18 @@ def sizes(processors):
 
 def heaps(processors):
     """The rows of the heap of an open sender and receiver; on each processor it has to be the same."""
-    for bits in COUNTED:
+    for bits in BITS:
         told = [it.stack(bits, "calm") for it in processors]
         if len({(it["sender"], it["receiver"]) for it in told}) != 1:
             sys.exit(f"the heaps differ: {told}")
         yield bits, told[0]["sender"], told[0]["receiver"]
 
 
-def packets(processors, program, bits_counted):
-    """The rows of instructions: a send and a receive on each processor, and beside them the program's packet."""
-    for bits in bits_counted:
-        for kind in KINDS:
-            made = [it.calls(bits, kind) for it in processors]
-            beside = by_program(processors[0], program, bits, kind) if program and processors[0].name == NATIVE else ["-", "-"]
-            data = processors[0].stack(bits, kind)["data"]
-            yield bits, kind, data, *(one for one, _ in made), *(one for _, one in made), *beside
+def packets(processors):
+    """The rows of instructions: a send and a receive on each processor."""
+    for kind in KINDS:
+        made = [it.calls(kind) for it in processors]
+        yield kind, processors[0].stack(1024, kind)["data"], *(one for one, _ in made), *(one for _, one in made)
 
 
 def show(given, folder):
@@ -166,25 +139,17 @@ def show(given, folder):
         sys.exit("there is no library to measure")
     names = [it.name for it in there]
     measure.show_table("The library: sizes and stacks", ["Bytes", *names], sizes(there))
-    if there[0].name == NATIVE:
-        runs = ((f"`{verb}`", depth) for verb, depth in there[0].commands().items())
-        measure.show_table("The library: stack of a command at a desk", ["Command", f"Deepest stack of `pocket_run`, {NATIVE}, bytes"], runs)
     measure.show_table("The library: heap", ["Bits of an input", "Bytes of an open sender", "Of an open receiver"], heaps(there))
     aligned = [it for it in there if "unaligned" not in it.name]
-    program = os.path.abspath(given.program) if os.path.exists(given.program) and measure.can_count() else None
     of = [f"{call}: {it.name}" for call in ("Send", "Receive") for it in aligned]
-    heads = ["Bits", "Inputs", "Data, bytes at most", *of, "`compress`", "`restore`"]
-    measure.show_table("The library: instructions for a packet", heads, packets(aligned, program, (8, 1024) if given.quick else COUNTED))
-    how = "".join(f", {word}" for word, is_so in (("--native", not given.others), ("--quick", given.quick)) if is_so)
-    print(measure.told_by("bench/library.py", how, before))
+    measure.show_table("The library: instructions for a packet", ["Inputs", "Data, bytes at most", *of], packets(aligned))
+    print(measure.told_by("bench/library.py", "" if given.others else ", --native", before))
 
 
 def main():
     words = argparse.ArgumentParser(description=__doc__, formatter_class=argparse.RawDescriptionHelpFormatter)
-    words.add_argument("--program", default=f"{TOP}/crates/pocket/out/pocket", help="the program beside the calls, for x86-64")
     words.add_argument("--unaligned", action="store_true", help="measure (and build) these libraries too")
     words.add_argument("--native", dest="others", action="store_false", help=f"measure the library of {NATIVE} alone")
-    words.add_argument("--quick", action="store_true", help="packets of 8 and 1,024 bits alone")
     given = words.parse_args()
     with tempfile.TemporaryDirectory() as folder:
         show(given, folder)

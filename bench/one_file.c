@@ -1,8 +1,8 @@
 /* one_file BITS RECORDING PACKETS WHAT PLANNED: sends the packets of a recording, and receives them, for bench/one_file.py; with the library
  * or the one file, whichever it is linked with.
  *
- * WHAT: inputs, which reads these alone; send; receive, of all that is sent. With PLANNED 1 a new mask is made each 20 packets, the mask sent each 50, the whole content each 100; with
- * 2 all that each time. The required robustness is 2. Instructions are counted from outside, as the difference of runs.
+ * WHAT: inputs, which reads these alone; send; receive, of all that is sent. With PLANNED 1 a new mask is made each 20 packets, the mask sent
+ * each 50, the whole content each 100. The required robustness is 2. Instructions are counted from outside, as the difference of runs.
  */
 #define _XOPEN_SOURCE 700
 #include "pocket.h"
@@ -14,7 +14,7 @@ static uint8_t input[6144], data[1 << 16], content[6144];
 static pocket_handle sender = POCKET_NOTHING, receiver = POCKET_NOTHING;
 static uint32_t bits, number;
 static size_t length;
-static bool planned, always;
+static bool planned;
 static int wrong;
 
 static void open_both(void)
@@ -26,8 +26,8 @@ static void send_one(void)
 {
     uint8_t level;
     const bool moves = planned && number > 0;
-    wrong |= pocket_send(&sender, input, POCKET_INPUT_BYTES(bits), always || (moves && number % 20 == 0), always || (moves && number % 50 == 0),
-                         always || (moves && number % 100 == 0), 2, data, sizeof data, &length, &level);
+    wrong |= pocket_send(&sender, input, POCKET_INPUT_BYTES(bits), moves && number % 20 == 0, moves && number % 50 == 0, moves && number % 100 == 0,
+                         2, data, sizeof data, &length, &level);
 }
 
 static void receive_one(void)
@@ -49,7 +49,6 @@ int main(int words, char **word)
     receives = strcmp(word[4], "receive") == 0;
     sends = receives || strcmp(word[4], "send") == 0;
     planned = word[5][0] == '1';
-    always = word[5][0] == '2';
     open_both();
     for (number = 0; number < packets && !wrong && fread(input, POCKET_INPUT_BYTES(bits), 1, from) == 1; number++) {
         if (sends)

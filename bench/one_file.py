@@ -14,7 +14,7 @@ import sys
 import tempfile
 
 import measure
-from recordings import KINDS, Kind, record
+from recordings import KINDS, record
 
 HERE = os.path.dirname(os.path.abspath(__file__))
 TOP = os.path.dirname(HERE)
@@ -27,8 +27,6 @@ PROCESSORS = {
     "s390x": ("s390x-linux-gnu-gcc", []), "riscv32": ("riscv64-unknown-elf-gcc", ["-march=rv32imac", "-mabi=ilp32"]),
     "riscv64": ("riscv64-linux-gnu-gcc", []), "aarch64": ("aarch64-linux-gnu-gcc", []),
 }
-# The dearest packets that were found: in each byte the bits of CC and of 66 turn, in turn, and each has a new mask, its mask and content.
-DEAREST = Kind("dearest", 1024, "dearest", 0, 100, "always")
 BARE = ["-ffreestanding", "-DPOCKET_NO_HEAP", "-DPOCKET_NO_LIBC"]
 WAYS = {"sender alone": [*BARE, "-DPOCKET_NO_RECEIVER", "-DPOCKET_NO_STATES"], "both": [*BARE, "-DPOCKET_NO_STATES"], "both, with states": BARE,
         "both, unchecked": [*BARE, "-DPOCKET_NO_STATES", "-DPOCKET_UNCHECKED"]}
@@ -42,7 +40,7 @@ def sections(dist, folder, compiler, flags):
     """The bytes of text and constants of the file at -Os, and those of its data."""
     made, size = os.path.join(folder, "sized.o"), re.sub(r"gcc$", "size", compiler)
     run([compiler, "-std=c99", "-Os", *flags, "-c", f"{dist}/pocket.c", "-o", made])
-    found = re.findall(r"^\.(text|rodata|data|bss)\S* +(\d+) ", run([size, "-A", made]), re.M)
+    found = re.findall(r"^\.s?(text|rodata|data|bss)\S* +(\d+) ", run([size, "-A", made]), re.M)
     of = lambda *names: sum(int(bytes_) for name, bytes_ in found if name in names)
     return of("text", "rodata"), of("data", "bss")
 
@@ -52,7 +50,7 @@ def sizes(dist, folder):
     for name, (compiler, flags) in PROCESSORS.items():
         if shutil.which(compiler):
             found = [sections(dist, folder, compiler, [*flags, *way]) for way in WAYS.values()]
-            yield name, *(text for text, _ in found), sum(data for _, data in found)
+            yield name, *(text for text, _ in found), max(data for _, data in found)
 
 
 def built(dist, folder, name, compiler, flags, others):
@@ -76,8 +74,7 @@ def memories(dist, folder):
 def costs(program, kind, recording):
     """The instructions of a send and of a receive of one packet more."""
     packets = kind.counted
-    planned = "2" if kind == DEAREST else "1" if kind.schedule else "0"
-    words = lambda times, what: [program, str(kind.bits), recording, str(times * packets), what, planned]
+    words = lambda times, what: [program, str(kind.bits), recording, str(times * packets), what, "1" if kind.schedule else "0"]
     inputs, send, receive = (measure.for_one_more(words(1, what), words(2, what), packets) for what in ("inputs", "send", "receive"))
     return send - inputs, receive - send
 
@@ -88,13 +85,9 @@ def packets(dist, folder, only):
     native = built(dist, folder, "native", "gcc", ["-Wl,--gc-sections"], library)
     checked = built(dist, folder, "checked", "gcc", [], [f"{dist}/pocket.c"])
     unchecked = built(dist, folder, "unchecked", "gcc", ["-DPOCKET_UNCHECKED"], [f"{dist}/pocket.c"])
-    for kind in KINDS[:2] if only else [*KINDS, DEAREST]:
+    for kind in KINDS[:2] if only else KINDS:
         recording = os.path.join(folder, "recording")
-        if kind == DEAREST:
-            with open(recording, "wb") as file:
-                file.write(b"".join(bytes([(0, 0xCC, 0xAA, 0x66)[number % 4]]) * (kind.bits // 8) for number in range(2 * kind.counted)))
-        else:
-            record(recording, kind.bits, 2 * kind.counted, kind.moves)
+        record(recording, kind.bits, 2 * kind.counted, kind.moves)
         found = [costs(program, kind, recording) for program in (native, checked, unchecked)]
         for at, call in enumerate(("send", "receive")):
             one = [each[at] for each in found]
@@ -139,7 +132,7 @@ def main():
     with tempfile.TemporaryDirectory() as folder:
         heads = ["Bits of an input", "Bytes of a sender", "Of a receiver", "State of a sender", "State of a receiver"]
         measure.show_table("The one C file: memory", heads, memories(dist, folder))
-        measure.show_table("The one C file: text and constants", ["Processor", *WAYS, "data of all"], sizes(dist, folder))
+        measure.show_table("The one C file: text and constants", ["Processor", *WAYS, "data"], sizes(dist, folder))
         measure.show_table("The one C file: C's own stack", ["Processor", "An opening", "A send", "A receive", "A state"], stacks(dist, folder))
         if measure.can_count():
             heads = ["Inputs", "Bits", "Call", "The library", "The file", "Unchecked", "Times as many", "Unchecked, times"]

@@ -1,5 +1,5 @@
 #!/usr/bin/env python3
-"""Puts what run.py, library.py, one_file.py and test_faults.py printed into docs/BENCHMARK.md: cat tables.md .. faults.md | python3 bench/paste.py
+"""Puts what run.py, library.py, one_file.py, search.py and fleet.py printed into docs/BENCHMARK.md: cat tables.md .. fleet.md | python3 bench/paste.py
 
 Each table takes the place of the one under its heading there, and each line 'Measured by ..' of the one of its script. What was
 measured by --quick is refused.

@@ -114,21 +114,3 @@ def step_rows(row, last, most=2**20):
             room -= len(rows[-1])
             if room < 0:
                 return "".join(rows[:-1])
-
-
-# How the rows of a schedule or a script lie: each names every packet; each spans all and names one in a thousand; no two span one packet.
-ROWS = {
-    "each names every packet": lambda row: (0, LAST, 1),
-    "each names one in a thousand": lambda row: (row % 1000, LAST, 1000),
-    "no two span one packet": lambda row: (4 * row, 4 * row + 2, 2),
-}
-
-
-def schedule_rows(kind, rows):
-    """A schedule of so many rows of a kind."""
-    return "".join("{},{},{},{}\n".format(*ROWS[kind](row), "prf"[row % 3]) for row in range(rows))
-
-
-def script_rows(kind, rows):
-    """A script of so many rows of a kind."""
-    return "".join("repeat,{},{},{},1\n".format(*ROWS[kind](row)) for row in range(rows))
