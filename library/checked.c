@@ -125,7 +125,7 @@ const char *pocket_status_text(uint32_t status)
     case POCKET_COUNT: return "the sequence count is above 16383";
     case POCKET_TOO_LONG: return "the packet is too long";
     case POCKET_NO_TEXT: return "it is not UTF-8";
-    case POCKET_TOO_MANY_WORDS: return "the command has too many words";
+    case POCKET_TOO_MANY_WORDS: return "the command has too many arguments";
     case POCKET_NOT_KEPT: return "no such name is kept";
     case POCKET_APID: return "the APID is above 2046";
     case POCKET_NO_DATA: return "a Space Packet has a byte of data at least";

@@ -7,7 +7,7 @@
     draw.py packet NAME=BITS NAME=BITS .. the bits of one packet, part by part, and its bytes
 
 A listing, a table, a report or a forecast that can't be read is refused with the number of its first wrong line, parts with the
-first wrong word, and so are more than 200,000 lines, or 1,000,000 packets of a forecast; the exit number is then 1. docs/FORMATS.md has
+first wrong word, and so are more than 200,000 lines, or 1,000,000 packets of a forecast; the exit status is then 1. docs/FORMATS.md has
 the lines of each and the parts of a packet. What has no room alone is drawn with what is beside it: packets as the worst of them, values
 from the least to the greatest, marks as one; the title of each says what it stands for.
 """

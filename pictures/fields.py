@@ -36,7 +36,7 @@ def read_table(text):
 
 
 def read_limits(path):
-    """The limits that a side text of `table` gives to its fields, by their names."""
+    """The limits that a parameter file of `table` gives to its fields, by their names."""
     with open(path, newline="", encoding="utf-8-sig") as file:
         return {row[1]: (int(row[2]), int(row[3])) for row in csv.reader(file) if row[:1] == ["limit"] and len(row) == 4}
 

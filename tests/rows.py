@@ -182,8 +182,8 @@ WORDS = [
 
 # Side texts that are wrong: nothing is begun.
 TEXTS = [
-    case("a side text too long", COMPRESS + " plan=s", 3, err=b"pocket: side input is too long\n", before={"x": RECORDING, "s": b"\n" * 1048577}),
-    case("a side text of the greatest length", COMPRESS + " plan=s", before={"x": RECORDING, "s": b"\n" * 1048576}, after={"y": STORE}),
+    case("a parameter file too long", COMPRESS + " plan=s", 3, err=b"pocket: side input is too long\n", before={"x": RECORDING, "s": b"\n" * 1048577}),
+    case("a parameter file of the greatest length", COMPRESS + " plan=s", before={"x": RECORDING, "s": b"\n" * 1048576}, after={"y": STORE}),
     case("a wrong row", COMPRESS + " plan=s", 3, err=b"pocket: side row 2 is wrong\n", before={"x": RECORDING, "s": b"0,9,1,f\n5,9,1,pp\n", "y": b"old"}),
     case("streams with one APID twice", MULTI, 3, err=b"pocket: side row 2 is wrong\n", before={"x": b"", "s": b"100,8\n100,16\n"}),
     case("fields with a wrong row", TABLE, 3, err=b"pocket: side row 1 is wrong\n", before={"x": b"", "s": b"field,9,8,u,x\n"}),

@@ -123,7 +123,7 @@ class CutOff(ProgramTest):
         self.assertTrue(STORE.startswith(got(os.path.join(folder, "y.part")) or b""))
 
     def test_no_memory(self):
-        """A run that finds no memory is refused so: it gets what the program takes that does nothing, and the room for a side text is a
+        """A run that finds no memory is refused so: it gets what the program takes that does nothing, and the room for a parameter file is a
         megabyte more."""
         def limited(words, size):
             return ended(self.begin([self.program, *words.split()], cwd=folder, preexec_fn=lambda: resource.setrlimit(resource.RLIMIT_AS, (size, size)),

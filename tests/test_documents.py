@@ -1,5 +1,5 @@
 """The documents and the program: the manual page, docs/OPERATING.md, README.md and the completions have the verbs, keys, ranges and exit
-numbers of the program's help, which crates/pocket/src/main.rt has; the manual page is clean for mandoc; docs/CALLING.md shows the caller of
+statuses of the program's help, which crates/pocket/src/main.rt has; the manual page is clean for mandoc; docs/CALLING.md shows the caller of
 the crate round_trip; and the sources have what the documents name (names.py)."""
 
 import os
@@ -42,7 +42,7 @@ def verbs_of_page(page):
 
 def ranges_of_help(text):
     """The ranges of each key."""
-    lines = text.split("left out:")[1].split("Exit numbers:")[0].splitlines()
+    lines = text.split("left out:")[1].split("Exit status:")[0].splitlines()
     rows = (re.match(r"    (\S.*?)  +(.*)", line) for line in lines)
     return {row[1]: RANGE.findall(row[2]) for row in rows if row}
 
@@ -59,8 +59,8 @@ def ranges_of_page(page):
 
 
 def exits_of_help(text):
-    """The exit numbers."""
-    return re.findall(r"^    (\d)  ", text.split("Exit numbers:")[1], re.M)
+    """The exit statuses."""
+    return re.findall(r"^    (\d)  ", text.split("Exit status:")[1], re.M)
 
 
 def with_commas(number):
@@ -79,7 +79,7 @@ def day_lacks(day, verbs, ranges, exits):
             wanted = {f"{low} to {with_commas(high)}", f"{low} to {int(high):,}"}
             if not any(it in day for it in wanted):
                 yield f"docs/OPERATING.md has no range {low} to {high} of {key}"
-    yield from (f"docs/OPERATING.md has no exit number {it}" for it in exits if f"\n| {it} |" not in day)
+    yield from (f"docs/OPERATING.md has no exit status {it}" for it in exits if f"\n| {it} |" not in day)
 
 
 def verbs_of_completions(text):

@@ -1,6 +1,5 @@
-#!/usr/bin/env python3
 """Each call of the system that the nine commands make fails in turn: allocations, openings, reads, writes, and what gives an output its
-name. Run alone this prints the table of docs/BENCHMARK.md.
+name.
 
 The commands run on the samples of crates/pocket/data, on four packets, in order or not, and a trial of three, over outputs that stood
 before. A failed run must end with the number and the text of its fault, and leave what stood under each name, with fronts of the outputs of
@@ -164,17 +163,3 @@ class Faults(unittest.TestCase):
             self.assertEqual(answer, (0, ""), name)
             counts[name] = calls.count("a"), after_opening(calls)
         return counts
-
-
-def show_table():
-    """Prints how often each command makes each kind of call."""
-    with tempfile.TemporaryDirectory(prefix="pocket-faults-") as folder:
-        made = {name: calls for name, _, (_, _, calls) in Runner(folder).each()}
-    print(f"## Failing calls\n\n| | {' | '.join(f'`{name}`' for name in made)} |\n|{'---|' * (1 + len(made))}")
-    for what, kind in (("allocations", "a"), ("openings", "o"), ("reads", "r"), ("writes", "w"),
-                       ("renamings, removals of an earlier part, syncs, changes of mode, of each", "n")):
-        print(f"| {what} | {' | '.join(str(calls.count(kind)) for calls in made.values())} |")
-
-
-if __name__ == "__main__":
-    show_table()

@@ -272,7 +272,7 @@ class Frames(LibraryTest):
 
     def test_refused(self):
         for words, wanted in [([], "length= is missing"), (["length=7"], "length=7: length= takes a number from 8 to 2048"), (["length=8", "length=9"], "length= is given twice"),
-                              (["size=8"], "size=8: the words are length=, vcid=, scid=, sync=, control=, out=, report="),
+                              (["size=8"], "size=8: the arguments are length=, vcid=, scid=, sync=, control=, out=, report="),
                               (["length=8", "scid=1024"], "scid=1024: scid= takes a number from 0 to 1023")]:
             with self.subTest(words), self.assertRaises(ToolError) as refusal:
                 frames.run(words)

@@ -81,7 +81,7 @@ def draw(words, given):
 
 
 def draw_table(fields, text, report):
-    """What is drawn of a table, its report and the side text of its fields."""
+    """What is drawn of a table, its report and the parameter file of its fields."""
     with tempfile.TemporaryDirectory() as folder:
         for name, content in (("fields", fields), ("report", report)):
             with open(os.path.join(folder, name), "w") as file:

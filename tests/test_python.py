@@ -89,7 +89,7 @@ class Python(LibraryTest):
             self.refuses(pocket.Refused, "word 3 is wrong", desk.run, *COMPRESS[:3], "bits=0", *COMPRESS[4:])
             self.refuses(pocket.Refused, "word 0 is wrong", desk.run)
             self.refuses(pocket.Refused, "word 0 is wrong", desk.run, *[""] * 1000)
-            self.refuses(pocket.TooManyWords, "the command has too many words", desk.run, *[""] * 1001)
+            self.refuses(pocket.TooManyWords, "the command has too many arguments", desk.run, *[""] * 1001)
             self.refuses(pocket.NotText, "it is not UTF-8", desk.put, "\udc80", b"")
             self.refuses(pocket.NotText, "it is not UTF-8", desk.run, *COMPRESS, "\udc80")
             self.assertEqual(desk.get("s"), STORE[:10])

@@ -110,7 +110,7 @@ SECOND_LINES = [
 ]
 
 
-# Rows of side texts, each wrong in one part: the verb's words, the row, and why.
+# Rows of parameter files, each wrong in one part: the verb's words, the row, and why.
 TABLE, MULTI = "table in=x out=y report=z fields=s bits=16", "multi in=x out=y report=z streams=s"
 WIDTH = "the width is no number from 1 to 64 in plain digits, or the field reaches past the last bit"
 WRONG_ROWS = [
@@ -189,7 +189,7 @@ class Terminals(ProgramTest):
         self.assertTrue(status == 0 and is_told(told, None) and 3 <= times <= 10 * seconds + 1, (status, told[:300], times, seconds))
 
     def test_hidden(self):
-        """Nothing is told if an output goes to the terminal, if little is read, or if a side text alone is long."""
+        """Nothing is told if an output goes to the terminal, if little is read, or if a parameter file alone is long."""
         listing, restored = (text.replace(b"\n", b"\r\n") for text in (NOTHING_LISTED, NOTHING_RESTORED))
         rows = [("show in=x out=- bits=8 apid=100", {"x": PASSED}, listing), ("show in=x out=/dev/stdout bits=8 apid=100", {"x": PASSED}, listing),
                 ("restore in=x out=y report=- bits=8 apid=100", {"x": PASSED}, restored + EMPTY), (LONG, {"x": bytes(1024)}, CAUTION),

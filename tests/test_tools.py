@@ -132,7 +132,7 @@ class Tools(LibraryTest):
 
     def test_wrong_words(self):
         for own, text in [(["merg", "x"], "merg: did you mean merge?"), (["number", "table=x"], "number: did you mean numbers?"), (["help"], "help: did you mean --help?"),
-                          (["xyz"], "xyz: the words are advise, frames, merge, numbers, pack, --help"), ([], "it takes bits=BITS and apid=APID, or the name of a tool (--help)"),
+                          (["xyz"], "xyz: the arguments are advise, frames, merge, numbers, pack, --help"), ([], "it takes bits=BITS and apid=APID, or the name of a tool (--help)"),
                           (["bits=0", "apid=1"], "bits is a number from 1 to 49152"), (["merge", "x", "x", "neer=1"], "neer=1: No such file or directory"),
                           (["frames", "lenght=9"], "lenght=9: did you mean length=?"), (["pack", "fields=fields"], "bits= is missing")]:
             self.refuses(own, text)

@@ -1,4 +1,4 @@
-// The records of side texts, by the lines in which they stand.
+// The records of parameter files, by the lines in which they stand.
 
 const latest = { text: '', records: [] };
 

@@ -1,4 +1,4 @@
-// Why the program refuses a row of a side text, in words.
+// Why the program refuses a row of a parameter file, in words.
 
 function is_plain(text) {
   return /^(0|[1-9][0-9]{0,9})$/.test(text) && Number(text) <= 4294967295;

@@ -37,7 +37,7 @@ def _taken(content: Data) -> bytes:
 
 def _utf8(text: str) -> bytes:
     if not isinstance(text, str):
-        raise TypeError(f"a name or a word is a text, and not {type(text).__name__}")
+        raise TypeError(f"a name or an argument is a text, and not {type(text).__name__}")
     try:
         return text.encode()
     except UnicodeEncodeError:
@@ -302,7 +302,7 @@ class Desk(Held):
         memory for the words, the desk is closed."""
         coded = [_utf8(word) for word in words]
         if len(coded) > 1000:
-            raise TooManyWords("the command has too many words")
+            raise TooManyWords("the command has too many arguments")
         for word in coded:
             status = library.pocket_word(self._handle, word, len(word))
             if status:

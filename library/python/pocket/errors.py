@@ -56,7 +56,7 @@ class NotText(PocketError, ValueError):
 
 
 class TooManyWords(PocketError, ValueError):
-    """A command has 1,000 words."""
+    """A command has 1,000 arguments."""
 
 
 class NotKept(PocketError, LookupError):
@@ -68,7 +68,7 @@ class Refused(PocketError):
 
     def __init__(self, text: str, exit_number: int) -> None:
         super().__init__(text, exit_number)
-        #: The exit number of the program, 1 to 5.
+        #: The exit status of the program, 1 to 5.
         self.exit_number = exit_number
 
     def __str__(self) -> str:
@@ -104,7 +104,7 @@ REFUSED = {
     13: (CountOutOfRange, "the sequence count is above 16383"),
     14: (TooLong, "the packet is too long"),
     15: (NotText, "it is not UTF-8"),
-    16: (TooManyWords, "the command has too many words"),
+    16: (TooManyWords, "the command has too many arguments"),
     17: (NotKept, "no such name is kept"),
     252: (NoState, "it is no state"),
     253: (NoState, "it is a state of the other kind or of other bits"),

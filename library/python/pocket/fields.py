@@ -1,4 +1,4 @@
-"""The side text of the command `table`: fields of a packet, and their limits."""
+"""The parameter file of the command `table`: fields of a packet, and their limits."""
 
 from __future__ import annotations
 

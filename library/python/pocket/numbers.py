@@ -17,7 +17,7 @@ report has a loss that may be one: 16 packets or more. `time=` is right then too
 with times in nanoseconds, which must be known and differ, under the `measurement` named (pocket if it is not), with each `tag=KEY:VALUE`
 and the APID if it was said as tags. `as=events` writes a line for each stretch of packets at which a field is out of its limits: the limit
 that it passed, the first packet out and the first one within again, how many are out, and the worst value with its packet. Influx and
-events take `fields`, the side text of the table, and `bits`. What this command decides is tested, not proved.
+events take `fields`, the parameter file of the table, and `bits`. What this command decides is tested, not proved.
 """
 
 import datetime

@@ -29,7 +29,7 @@ class ToolError(ValueError):
 def near(word: str, known: Sequence[str], end: str = "") -> str:
     """The known word that is meant, if one is near, and else all of them."""
     found = difflib.get_close_matches(word, known, 1)
-    return f"did you mean {found[0]}{end}?" if found else f"the words are {', '.join(one + end for one in known)}"
+    return f"did you mean {found[0]}{end}?" if found else f"the arguments are {', '.join(one + end for one in known)}"
 
 
 def given(words: Sequence[str], keys: Sequence[str], needed: Sequence[str]) -> Dict[str, str]:
