@@ -88,10 +88,8 @@ def packets(dist, folder, only):
     for kind in KINDS[:2] if only else KINDS:
         recording = os.path.join(folder, "recording")
         record(recording, kind.bits, 2 * kind.counted, kind.moves)
-        found = [costs(program, kind, recording) for program in (native, checked, unchecked)]
-        for at, call in enumerate(("send", "receive")):
-            one = [each[at] for each in found]
-            yield kind.name, kind.bits, call, *map(round, one), f"{one[1] / one[0]:.2f}", f"{one[2] / one[0]:.2f}"
+        sends, receives = zip(*(costs(program, kind, recording) for program in (native, checked, unchecked)))
+        yield kind.name, kind.bits, *map(round, sends + receives)
 
 
 def deepest(text, calls):
@@ -132,10 +130,10 @@ def main():
     with tempfile.TemporaryDirectory() as folder:
         heads = ["Bits of an input", "Bytes of a sender", "Of a receiver", "State of a sender", "State of a receiver"]
         measure.show_table("The one C file: memory", heads, memories(dist, folder))
-        measure.show_table("The one C file: text and constants", ["Processor", *WAYS, "data"], sizes(dist, folder))
-        measure.show_table("The one C file: C's own stack", ["Processor", "An opening", "A send", "A receive", "A state"], stacks(dist, folder))
+        heads, both = ["Processor", *WAYS, "data", "Stack: an opening", "a send", "a receive", "a state"], zip(sizes(dist, folder), stacks(dist, folder))
+        measure.show_table("The one C file: text, constants and C's own stack", heads, ((*size, *stack[1:]) for size, stack in both))
         if measure.can_count():
-            heads = ["Inputs", "Bits", "Call", "The library", "The file", "Unchecked", "Times as many", "Unchecked, times"]
+            heads = ["Inputs", "Bits", "Send: library", "File", "Unchecked", "Receive: library", "File", "Unchecked"]
             measure.show_table("The one C file: instructions for a packet", heads, packets(dist, folder, given.quick))
     print(measure.told_by("bench/one_file.py", ", --quick" if given.quick else "", before))
     return 0

@@ -81,8 +81,7 @@ def verbs(bench):
         packets = min(timed, 10_000) if name == "trial" else timed
         took = measure.best(words, bench.rounds)
         more = round((counts[1][place] - counts[0][place]) / counted) if counts else "-"
-        rate = "-" if name == "forecast" else packets * 128 / took.seconds / 1e6
-        yield name, round(packets / took.seconds), rate, more, took.memory
+        yield name, round(packets / took.seconds), more, took.memory
 
 
 def largest(bench):
@@ -107,7 +106,7 @@ def tables(bench):
     """The titles, heads and rows of all tables; rows are measured as they are asked for."""
     rates = ["`compress`: packets a second", "MB", "`restore`: packets a second", "MB", "Store", "`gzip -1`", "`zstd -1`"]
     yield "Speed and size", ["Recording", "Bits", "Packets", *rates], timed_kinds(bench)
-    heads = ["Packets a second", "MB a second", "Instructions for a packet", "KB"]
+    heads = ["Packets a second", "Instructions for a packet", "KB"]
     yield "The nine verbs", ["Verb", *heads], verbs(bench)
     if measure.can_count():
         heads = ["`compress`", "of those in C", "`restore`", "of those in C"] if bench.ref else ["`compress`", "`restore`"]
