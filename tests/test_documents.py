@@ -119,5 +119,16 @@ class Documents(unittest.TestCase):
         shown = text_of("docs/CALLING.md").split("```rust\n")[1].split("```")[0]
         self.assertTrue(shown.strip() and shown in text_of("crates/round_trip/src/lib.rt"), "docs/CALLING.md shows another caller")
 
+    def test_limits(self):
+        """The limits in C, Python and the page are those of the definitions."""
+        places = re.search(r"IsPlaces f = .* × \(f ≤ (\d+)\)", text_of("crates/bit_vectors/specs/Vectors.antt"))[1]
+        apid = re.search(r"chosen : apid ≤ (\d+)", text_of("crates/packet_store/specs/SpacePackets.antt"))[1]
+        for name, limit, before, after in (
+                ("library/pocket.h", places, "#define POCKET_MOST_BITS ", "u "), ("library/python/pocket/calls.py", places, "\nMOST_BITS = ", "\n"),
+                ("library/python/pocket/packets.py", str(int(apid) + 1), "IDLE, PERIOD, MOST_DATA = ", ","),
+                ("page/views/why_row.js", places, "Number(cells[1]) > ", ")"), ("page/views/why_row.js", apid, "Number(cells[0]) > ", ")")):
+            with self.subTest(name, limit=limit):
+                self.assertIn(before + limit + after, text_of(name))
+
     def test_names(self):
         self.assertEqual(names.unknown(), [])

@@ -18,10 +18,12 @@ import sys
 from typing import Iterator, List, Tuple
 
 from . import Arrival, Kind, PocketError, Receiver, space_packets
+from .calls import MOST_BITS
+from .packets import IDLE
 from .tool import ToolError, near, opened
 
 TOOLS = ("advise", "frames", "merge", "numbers", "pack")
-WORDS = {"bits": range(1, 49153), "apid": range(2047)}
+WORDS = {"bits": range(1, MOST_BITS + 1), "apid": range(IDLE)}
 HELPS = ("--help", "-h")
 
 

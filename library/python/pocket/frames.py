@@ -28,7 +28,8 @@ import binascii
 from dataclasses import dataclass
 from typing import BinaryIO, Counter, Dict, Iterator, List, NamedTuple, Optional, Tuple
 
-from .tool import IDLE, LOOK, Tell, ToolError, given, number_of, opened, outputs, read
+from .packets import IDLE
+from .tool import LOOK, Tell, ToolError, given, number_of, opened, outputs, read
 
 MARK = bytes.fromhex("1ACFFC1D")
 # What the pointer to the first header says if no packet begins in the frame, and if the frame has idle data alone.

@@ -37,7 +37,8 @@ from collections import defaultdict, deque
 from dataclasses import dataclass, field
 from typing import BinaryIO, Callable, Deque, Dict, Iterator, List, NamedTuple, Optional, Tuple
 
-from .tool import IDLE, LOOK, PERIOD, Tell, ToolError, given, opened, outputs, read, whole_number
+from .packets import IDLE, PERIOD
+from .tool import LOOK, Tell, ToolError, given, opened, outputs, read, whole_number
 
 HALF = PERIOD // 2
 # The bits of a place in a record.

@@ -28,6 +28,8 @@ from dataclasses import dataclass, field
 from typing import Dict, Iterator, List, NamedTuple, Optional, Sequence, Tuple
 
 from .fields import Fields, fields_of
+from .calls import MOST_BITS
+from .packets import IDLE
 from .tool import ToolError, contents, given, number_of, outputs, whole_number
 
 KEYS = ("table", "report", "fields", "bits", "as", "apid", "start", "step", "time", "epoch", "unit", "measurement", "out")
@@ -262,7 +264,7 @@ def lines_of(said: Dict[str, str], clock: Clock, fields: Fields) -> Tuple[List[s
     names, values = table_of(said["table"])
     if fields.fields and [one.name for one in fields.fields] != names:
         raise ToolError(f"the fields of {said['fields']} are not those of {said['table']}")
-    rows = rows_of(said["report"], number_of(said, "apid", 0, 2046))
+    rows = rows_of(said["report"], number_of(said, "apid", 0, IDLE - 1))
     numbers = list(written(said["report"], rows))
     if len(numbers) != len(values):
         which = f" of APID {said['apid']}" if "apid" in said else ""
@@ -295,7 +297,7 @@ def run(words: List[str]) -> int:
     tags = [word[len("tag="):] for word in words if word.startswith("tag=")]
     said = given([word for word in words if not word.startswith("tag=")], KEYS, ["table", "report"])
     form, clock = choice_of(said, tags)
-    bits = number_of(said, "bits", 1, 49152)
+    bits = number_of(said, "bits", 1, MOST_BITS)
     inputs = [said[key] for key in ("table", "report", "fields") if key in said]
     with outputs("numbers", {"out": said.get("out", "-")}, inputs) as (out, tell):
         fields = fields_of(said["fields"], bits) if "fields" in said and bits is not None else Fields()

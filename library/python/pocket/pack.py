@@ -17,6 +17,7 @@ import io
 from typing import Iterator, List, Optional
 
 from .fields import Field, fields_of
+from .calls import MOST_BITS
 from .tool import ToolError, contents, given, number_of, outputs, whole_number
 
 KEYS = ("fields", "bits", "in", "out")
@@ -76,7 +77,7 @@ def packets(name: str, text: str, fields: List[Field], bits: int) -> Iterator[by
 def run(words: List[str]) -> int:
     """Writes the recording."""
     said = given(words, KEYS, ["fields", "bits"])
-    name, bits = said.get("in", "-"), number_of(said, "bits", 1, 49152) or 0
+    name, bits = said.get("in", "-"), number_of(said, "bits", 1, MOST_BITS) or 0
     if said["fields"] == name == "-":
         raise ToolError("standard input is one file")
     with outputs("pack", said, [name, said["fields"]]) as (out, _):

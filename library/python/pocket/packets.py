@@ -7,6 +7,9 @@ from typing import BinaryIO, Iterator
 
 from .errors import StoreError
 
+# The APID of idle packets, which is above all others; after how many packets the sequence count begins anew; the most bytes of data.
+IDLE, PERIOD, MOST_DATA = 2047, 16384, 65536
+
 
 @dataclass(frozen=True)
 class SpacePacket:
@@ -21,7 +24,7 @@ class SpacePacket:
 
 def packed(packet: SpacePacket) -> bytes:
     """The bytes of a Space Packet: its header of six bytes and its data, 1 to 65,536 bytes."""
-    if not 1 <= len(packet.data) <= 65536 or not 0 <= packet.apid < 2047 or not 0 <= packet.count < 16384:
+    if not 1 <= len(packet.data) <= MOST_DATA or not 0 <= packet.apid < IDLE or not 0 <= packet.count < PERIOD:
         raise StoreError("no Space Packet has this APID, count or length")
     return b"".join(number.to_bytes(2, "big") for number in (packet.apid, 0xC000 | packet.count, len(packet.data) - 1)) + packet.data
 

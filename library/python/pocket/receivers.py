@@ -6,8 +6,7 @@ from typing import Iterator, Mapping, Tuple
 
 from .calls import Arrival, Data, Receiver
 from .errors import StoreError
-
-IDLE = 2047
+from .packets import IDLE
 
 
 class Receivers:

@@ -10,8 +10,6 @@ import stat
 import sys
 from typing import BinaryIO, Callable, Dict, Iterator, List, Optional, Sequence, Tuple
 
-PERIOD = 16384
-IDLE = 2047
 # The status of a tool that has written what it makes, and told something that has to be looked at first.
 LOOK = 3
 
