@@ -8,7 +8,7 @@ use Rattle.std.proofs.lemmas.Nat.{be_bytes_8, pow-add, mod-pow-add, shl-shr, shr
 use Rattle.std.proofs.lemmas.Nat.Bits.{bit_at-zero}
 use Rattle.std.proofs.Math.Nat.{pow-succ', mul-mod_left, mul-le-mul_right}
 use Rattle.bit_vectors.specs.Vectors.{number_bits, bits_of, AreBytes}
-use Rattle.bit_vectors.specs.Eye.{Shows}
+use Rattle.bit_vectors.specs.Eye.{Shows, ShowsFirst}
 use Rattle.bit_vectors.proofs.NumberBits.{length-number_bits, get_or-number_bits}
 use Rattle.bit_vectors.proofs.Numbers.{number_bits-split, number_bits-cat, number_bits-mod, bit_at_mod, bit_at_shr, bit_at_shl, bit_at_shl_low}
 use Rattle.bit_vectors.proofs.ByteBits.{length-bits_of, get_or-bits_of}
@@ -144,10 +144,21 @@ Shows-left bits word s s_lt most shows =
     ]
 
 -- the first bits of a word that shows them
-pub shown_front : (bits : List Bool) (word width : ℕ) → Shows bits word → width ≤ 64 → width ≤ length bits → number_bits width (word / 2 ^ (64 - width)) ≡ take width bits
-shown_front bits word width shows most le =
+pub shown_first : (bits : List Bool) (word width : ℕ) → ShowsFirst width bits word → width ≤ 64 → width ≤ length bits → number_bits width (word / 2 ^ (64 - width)) ≡ take width bits
+shown_first bits word width shows most le =
     ext_get_or false (number_bits width (word / 2 ^ (64 - width))) (take width bits) (length-number_bits width (word / 2 ^ (64 - width)) ∙ sym (length-take-le width bits le))
     (λ k lt.
     let below : k < width = omega (arith, length-number_bits width (word / 2 ^ (64 - width))) in
     let weight : 64 - width + (width - 1 - k) ≡ 63 - k = omega arith in
-    get_or-number_bits width (word / 2 ^ (64 - width)) k below ∙ rw (bit_at_shr word (64 - width) (width - 1 - k), weight) (shows k (omega arith) ∙ sym (get_or-take width bits k false below)))
+    get_or-number_bits width (word / 2 ^ (64 - width)) k below ∙ rw (bit_at_shr word (64 - width) (width - 1 - k), weight) (shows k below ∙ sym (get_or-take width bits k false below)))
+
+pub shown_front : (bits : List Bool) (word width : ℕ) → Shows bits word → width ≤ 64 → width ≤ length bits → number_bits width (word / 2 ^ (64 - width)) ≡ take width bits
+shown_front bits word width shows most le = shown_first bits word width (λ k lt. shows k (omega arith)) most le
+
+-- the bits after the given number of those that are shown
+pub ShowsFirst-after : (bits : List Bool) (word shown count : ℕ) → shown ≤ 64 → count ≤ shown → ShowsFirst shown bits word → ShowsFirst (shown - count) (drop count bits) (word * 2 ^ (count % 64) % 2 ^ 64)
+ShowsFirst-after bits word shown count most le shows =
+    λ k lt.
+    let by : count % 64 ≡ count = omega arith in
+    let weight : 63 - k - count ≡ 63 - (count + k) = omega arith in
+    rw by (ap (λ (b : ℕ). eqb b 1) (bit_at_mod (word * 2 ^ count) 64 (63 - k) (omega arith) ∙ bit_at_shl word count (63 - k) (omega arith)) ∙ rw weight (shows (count + k) (omega arith) ∙ sym (get_or-drop count bits k false)))

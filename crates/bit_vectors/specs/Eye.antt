@@ -10,6 +10,10 @@ pub record EyeState : Type 0 where
 abbrev pub bits_left : EyeState → List Bool
 bits_left eye = drop eye.place eye.bits
 
--- the 64 bits of a word are the first of these bits, and zeros after their end
+-- as many of the first bits of a word as given are the first of these bits, and zeros after their end
+abbrev pub ShowsFirst : ℕ → List Bool → ℕ → Type 0
+ShowsFirst count bits word = (k : ℕ) → k < count → (bit_at word (63 - k) == 1) ≡ slice_index_or bits k false
+
+-- all 64 bits of a word
 abbrev pub Shows : List Bool → ℕ → Type 0
-Shows bits word = (k : ℕ) → k < 64 → (bit_at word (63 - k) == 1) ≡ slice_index_or bits k false
+Shows bits word = ShowsFirst 64 bits word

@@ -80,11 +80,11 @@ impl<'a> BitEye<'a> {
         Ok(number as u32)
     }
 
-    /// Takes the `width` lowest bits of a number, at most 32, the bit of the greatest weight first. The first bit that
+    /// Takes the `width` lowest bits of a number, at most 64, the bit of the greatest weight first. The first bit that
     /// differs from them is wrong, and the bits end early if all that are left are a proper prefix of them.
     #[inline(always)]
-    pub fn match_number(&mut self, value: u32, width: u32) -> Result<(), BitFault>
-        requires { width ≤ 32 }
+    pub fn match_word(&mut self, value: u64, width: u32) -> Result<(), BitFault>
+        requires { width ≤ 64 }
         ensures moves { MovesOn self.old self.new }
         ensures word { OnOk result
             (bits_left self.old ≡ number_bits width value ++ bits_left self.new) }
@@ -157,13 +157,13 @@ impl<'a> BitEye<'a> {
 
     /// Takes the bits of a number: at once if they come next, else bit by bit.
     #[inline(always)]
-    fn match_ahead(&mut self, value: u32, width: u32) -> Result<(), BitFault>
-        requires { width ≤ 32 }
+    fn match_ahead(&mut self, value: u64, width: u32) -> Result<(), BitFault>
+        requires { width ≤ 64 }
         ensures moves { MovesOn self.old self.new }
         ensures reading { Gives (λ _. tt) result self.new
             (parse_word (number_bits width value) (bits_left self.old)) }
     {
-        if self.comes_next(value, width) {
+        if width <= self.left() && high_bits(self.ahead(), width) == value {
             self.pass(width);
             return Ok(());
         }
@@ -172,8 +172,8 @@ impl<'a> BitEye<'a> {
 
     /// Takes the bits of a number one by one, to name the first one that differs.
     #[cold]
-    fn match_bits(&mut self, value: u32, width: u32) -> Result<(), BitFault>
-        requires { width ≤ 32 }
+    fn match_bits(&mut self, value: u64, width: u32) -> Result<(), BitFault>
+        requires { width ≤ 64 }
         ensures moves { MovesOn self.old self.new }
         ensures reading { Gives (λ _. tt) result self.new
             (parse_word (number_bits width value) (bits_left self.old)) }

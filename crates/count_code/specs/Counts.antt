@@ -1,6 +1,8 @@
 -- Words within a limit, and reading them.
-use Rattle.std.specs.Prelude.{◌≡◌, ℕ, zero, suc, ◌+◌, ◌-◌, ◌*◌, ◌^◌, ◌≤◌, nat_le, Bool, true, false, if◌then◌else◌, List, ◌++◌}
+use Rattle.std.specs.Prelude.{◌≡◌, ℕ, zero, suc, ◌+◌, ◌-◌, ◌*◌, ◌^◌, ◌≤◌, nat_le, Bool, true, false, if◌then◌else◌, List, ◌++◌, length}
+use Rattle.bit_vectors.specs.Eye.{ShowsFirst}
 use Rattle.bit_vectors.specs.Reading.{Parsed, Read, ◌>>=◌, bit_where, allowed}
+use Rattle.count_code.specs.declared.ahead.Ahead.{Ahead}
 use Rattle.count_code.specs.declared.count.Count.{Count}
 use Rattle.count_code.specs.declared.count.Count.TheVariants.{Value, End}
 use Rattle.count_code.specs.Code.{count_bits, end_bits}
@@ -25,6 +27,12 @@ IsCodeOf limit count word = IsWithin limit count × (word ≡ word_of count)
 -- the words within the limit
 abbrev pub IsCode : ℕ → List Bool → Type 0
 IsCode limit word = (count : Count) × IsCodeOf limit count word
+
+-- the bits that are kept are the first of these bits
+pub record AreAhead (bits : List Bool) (ahead : Ahead) : Type 0 where
+  pub most : ahead.shown ≤ 64
+  pub within : ahead.shown ≤ length bits
+  pub shows : ShowsFirst ahead.shown bits ahead.word
 
 -- ---- completions
 

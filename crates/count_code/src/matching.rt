@@ -22,5 +22,5 @@ pub fn match_count(eye: &mut BitEye, a: u32) -> Result<(), BitFault>
         (parse_word (count_bits a) (bits_left eye.old)) }
 {
     let word = count_word(a);
-    eye.match_number(word.value, word.width)
+    eye.match_word(u64::from(word.value), word.width)
 }

@@ -1,13 +1,13 @@
-//! Counts from bits. A count whose whole word comes next is read at once; the readers bit by bit are for the faults.
+//! Counts from bits. A count whose whole word is seen ahead is read at once; the readers bit by bit are for the faults.
 
 ghost use Rattle.std.specs.Prelude.{◌≡◌, ◌-◌, ◌*◌, ◌^◌, ◌≤◌, ◌++◌, Bool, List, Ok, IfOk, IfErr};
 ghost use Rattle.bit_vectors.specs.Eye.{bits_left};
 ghost use Rattle.bit_vectors.specs.Reading.{Gives, MovesOn, IsFirstFault};
-ghost use Rattle.count_code.specs.Counts.{word_of, IsWithin, IsCode, parse_bounded, parse_long, parse_above_one, parse_after_one, parse_count};
+ghost use Rattle.count_code.specs.Counts.{AreAhead, word_of, IsWithin, IsCode, parse_bounded, parse_long, parse_above_one, parse_after_one, parse_count};
 ghost use Rattle.count_code.specs.declared.count.Count.{Count};
 
+use crate::ahead::Ahead;
 use crate::count::Count;
-use crate::word::count_word;
 use bit_vectors::{BitEye, BitFault};
 
 /// Takes the word of a count from 1 to `limit`, or the word that ends a list of counts. `Wrong` names the
@@ -24,47 +24,49 @@ pub fn take_count(eye: &mut BitEye, limit: u32) -> Result<Count, BitFault>
     ensures reading { Gives (λ count. count) result eye.new
         (parse_count limit (bits_left eye.old)) }
 {
-    read_count(eye, limit)
+    take_count_with(eye, &mut Ahead::none(), limit)
 }
 
-/// Takes a count or the end: at once if its whole word comes next, else bit by bit.
-fn read_count(eye: &mut BitEye, limit: u32) -> Result<Count, BitFault>
-    requires { limit ≤ 49152 }
+/// The same for one of several counts: bits that were looked at for one are kept for the next.
+#[inline(always)]
+pub fn take_count_with(eye: &mut BitEye, ahead: &mut Ahead, limit: u32) -> Result<Count, BitFault>
+    requires limit { limit ≤ 49152 }
+    requires ahead { AreAhead (bits_left eye.old) ahead.old }
+    ensures moves { MovesOn eye.old eye.new }
+    ensures word { IfOk result
+        (λ count. IsWithin limit count × (bits_left eye.old ≡ word_of count ++ bits_left eye.new)) }
+    ensures only { (count : Count) (rest : List Bool) → IsWithin limit count
+        → bits_left eye.old ≡ word_of count ++ rest → result ≡ Ok count }
+    ensures fault { IfErr result (λ fault. IsFirstFault (IsCode limit) eye.old eye.new fault) }
+    ensures reading { Gives (λ count. count) result eye.new
+        (parse_count limit (bits_left eye.old)) }
+    ensures ahead { AreAhead (bits_left eye.new) ahead.new }
+{
+    read_count(eye, ahead, limit)
+}
+
+/// Takes a count or the end: at once if its whole word is seen ahead, else bit by bit.
+#[inline(always)]
+fn read_count(eye: &mut BitEye, ahead: &mut Ahead, limit: u32) -> Result<Count, BitFault>
+    requires limit { limit ≤ 49152 }
+    requires ahead { AreAhead (bits_left eye.old) ahead.old }
     ensures moves { MovesOn eye.old eye.new }
     ensures reading { Gives (λ count. count) result eye.new
         (parse_count limit (bits_left eye.old)) }
+    ensures ahead { AreAhead (bits_left eye.new) ahead.new }
 {
-    if eye.comes_next(0b10, 2) {
-        eye.pass(2);
-        return Ok(Count::End);
-    }
-    let a = guessed_count(eye.ahead());
-    let word = count_word(a);
-    if a <= limit && eye.comes_next(word.value, word.width) {
-        eye.pass(word.width);
-        return Ok(Count::Value(a));
-    }
-    read_bits(eye, limit)
-}
-
-/// The count whose word may be the first bits of `ahead`. Whatever it is, the bits are then compared with its
-/// word, so the contract states only its bounds.
-fn guessed_count(ahead: u64) -> u32
-    ensures some { 1 ≤ result }
-    ensures most { result ≤ 49152 }
-{
-    if ahead >> 63 == 0 {
-        return 1;
-    }
-    if ahead >> 61 == 0b110 {
-        return 2 + ((ahead >> 56) % 32) as u32;
-    }
-    let digits = ahead << 3;
-    let width = 2 * digits.leading_zeros().min(10) + 6;
-    2 + (digits >> (64 - width)).min(49_150) as u32
+    let looked = ahead.or_looked(eye);
+    let Some(seen) = looked.first(limit) else {
+        *ahead = Ahead::none();
+        return read_bits(eye, limit);
+    };
+    eye.pass(seen.width);
+    *ahead = looked.after(seen.width);
+    Ok(seen.count)
 }
 
 /// Takes a count or the end bit by bit, as `parse_count` reads them, to name the fault.
+#[inline(never)]
 #[tactic(auto, unfolding(crate::specs::Counts::parse_count))]
 fn read_bits(eye: &mut BitEye, limit: u32) -> Result<Count, BitFault>
     requires { limit ≤ 49152 }

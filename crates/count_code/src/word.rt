@@ -11,6 +11,9 @@ pub struct CountWord {
     pub width: u32,
 }
 
+/// The most bits that the word of a count has.
+pub const MOST_BITS: u32 = 29;
+
 /// The word of a count, which is from 1 to 49,152.
 pub fn count_word(a: u32) -> CountWord
     requires valid { IsPlaces a }

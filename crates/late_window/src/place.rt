@@ -5,11 +5,9 @@ ghost use Rattle.std.specs.Vec.{vec_capacity};
 ghost use Rattle.late_window.specs.Lines.{nothing};
 
 use bit_vectors::NoMemory;
+use packet_store::MOST_DATA_BYTES;
 use std::alloc::Global;
 use std::marker::Model;
-
-/// The most data bytes that a packet has.
-pub const MOST_DATA_BYTES: usize = 65_536;
 
 /// A place for one arrival: its number and its data bytes. Its room has memory for any packet, and is as long as the longest
 /// packet so far, so that no zeros are written for bytes that never come.

@@ -14,19 +14,13 @@ use crate::fault::{LoadFault, OpenFault, ReceiveFault};
 use bit_vectors::byte_len;
 use ground_chain::{Restored, Tallied, Verdict};
 use packet_decode::Decoder;
-use packet_store::PERIOD;
+use packet_store::{MOST_DATA_BYTES, MOST_PACKETS, PERIOD};
 use state_bytes::{FRAME_BYTES, FrameFault, body_of, put_head, seal};
 use std::alloc::Global;
 use std::marker::Model;
 
-/// The most bytes of the data of a packet.
-const MOST_DATA: usize = 65536;
-
 /// The kind of a receiver in its state.
 pub const RECEIVER_KIND: u8 = 2;
-
-/// The most packets that a receiver judges.
-const MOST_PACKETS: u64 = 4294967296;
 
 /// The most bytes that the state of a receiver has, with contents of this many places.
 pub fn receiver_state_room(places: u32) -> usize
@@ -100,7 +94,7 @@ impl Receiver {
         if u64::from(count) >= PERIOD {
             return Err(ReceiveFault::Count);
         }
-        if bytes.len() > MOST_DATA {
+        if bytes.len() > MOST_DATA_BYTES {
             return Err(ReceiveFault::TooLong);
         }
         let size = self.content_len() as usize;

@@ -15,6 +15,7 @@ ghost use Rattle.state_bytes.specs.Frames.{IsOther};
 use crate::fault::{LoadFault, OpenFault, SendFault};
 use bit_vectors::{BitPen, Bits, Flags, byte_len, has_spare_bit};
 use packet_encode::{Encoder, room};
+use packet_store::MOST_PACKETS;
 use state_bytes::{FRAME_BYTES, FrameFault, body_of, put_head, seal};
 use std::alloc::Global;
 use std::marker::Model;
@@ -24,9 +25,6 @@ pub const SENDER_KIND: u8 = 1;
 
 /// The greatest required robustness.
 const MOST_ROBUST: u8 = 7;
-
-/// The most packets that a sender makes.
-const MOST_PACKETS: u64 = 4294967296;
 
 /// The most bytes that the state of a sender has, with inputs of this many places.
 pub fn sender_state_room(places: u32) -> usize

@@ -22,7 +22,7 @@ pub fn take_padding(eye: &mut BitEye, kind: DataKind) -> Result<(), BitFault>
     let place = eye.at();
     match kind {
         DataKind::Opaque => Ok(()),
-        _ => eye.match_number(0, (8 - place % 8) % 8),
+        _ => eye.match_word(0, (8 - place % 8) % 8),
     }
 }
 

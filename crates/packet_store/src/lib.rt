@@ -14,5 +14,5 @@ pub use laws::{
     good_packets_are_walked, only_good_packets_are_read, packets_are_told_apart, stores_are_walked,
     walks_are_exact, walks_of_fronts, worked_walks,
 };
-pub use reader::{StoreReader, Taken};
+pub use reader::{MOST_DATA_BYTES, MOST_PACKETS, StoreReader, Taken};
 pub use writer::StoreWriter;

@@ -16,11 +16,14 @@ use desk_ports::{Desk, Inlet, ReadAhead};
 use std::alloc::Global;
 use std::marker::Model;
 
-/// The bytes of the longest Space Packet: its header, and 65,536 data bytes.
-pub const PACKET_BYTES: usize = HEADER_BYTES + 65_536;
+/// The most data bytes that a Space Packet has.
+pub const MOST_DATA_BYTES: usize = 65_536;
 
-/// The most packets that one reader gives.
-const MOST_PACKETS: u64 = 1 << 32;
+/// The bytes of the longest Space Packet.
+pub const PACKET_BYTES: usize = HEADER_BYTES + MOST_DATA_BYTES;
+
+/// The most packets of one stream: a reader gives, a sender makes and a receiver judges no more.
+pub const MOST_PACKETS: u64 = 1 << 32;
 
 /// A packet that a reader gave.
 #[derive(Clone, Copy, Debug, PartialEq, Eq)]

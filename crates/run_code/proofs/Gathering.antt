@@ -3,7 +3,7 @@ use Rattle.std.proofs.Common.{◌≡◌, ℕ, zero, suc, ◌+◌, ◌-◌, ◌*�
 use Rattle.std.specs.Int.{bit_at, trailing_zeros}
 use Rattle.std.proofs.lemmas.Bool.{cases_eq, cases_lt}
 use Rattle.std.proofs.lemmas.Nat.{pow_pos, mod_below, shr_split, pow-add, and_le_l}
-use Rattle.std.proofs.Math.Nat.{pow-succ', le-mul_of_pos_right, mod-eq_of_lt}
+use Rattle.std.proofs.Math.Nat.{pow-succ', le-mul_of_pos_right, mul-le-mul_right, mod-eq_of_lt}
 use Rattle.std.specs.Int.RustNames.{count_ones}
 use Rattle.bit_vectors.proofs.WordBits.{count_by-number_bits}
 use Rattle.std.proofs.lemmas.Nat.Bits.{shr_and_one, bit_at_and, bit_at_cat_high, bit_at_cat_low, bit_at_ones_above, bit_at-trailing_zeros, same_from_bits, same_from_bits_below, bit_at-zero, bit_at-lt}
@@ -253,3 +253,15 @@ extract_step a b index bits at some is_a is_b =
 pub ones_step : (a b : List Bool) (index bits at : ℕ) → 0 < index → at < 2 ^ 64 → IsWord a (index - 1) bits → IsWord b (index - 1) at → length (ones_below (64 * index) b) ≡ count_ones at + length (ones_below (64 * (index - 1)) b)
 ones_step a b index bits at some below is_a is_b =
     omega (arith, length-bits_at a (ones_below (64 * index) b), length-bits_at a (ones_below (64 * (index - 1)) b), length-word_extract bits at below, length-append (word_extract bits at) (bits_at a (ones_below (64 * (index - 1)) b)), ap (λ (xs : List Bool). length xs) (extract_step a b index bits at some is_a is_b))
+
+-- ---- bits that are held
+
+pub no_number : (n : ℕ) → number_bits 0 n ≡ []
+unfolding number_bits
+no_number n = refl
+
+-- there is room above a number for as many bits more
+pub fits_word : (held count more : ℕ) → held < 2 ^ count → (held + 1) * 2 ^ more ≤ 2 ^ (count + more)
+fits_word held count more small =
+    let next : held + 1 ≤ 2 ^ count = omega (arith, small) in
+    rw (pow-add 2 count more) (mul-le-mul_right (2 ^ more) next)

@@ -4,12 +4,13 @@ use Rattle.std.specs.Int.{bit_at, bit_not, trailing_zeros}
 use Rattle.std.specs.Int.Bits.{or_zero_r}
 use Rattle.std.specs.Int.RustNames.{count_ones}
 use Rattle.std.proofs.lemmas.Bool.{cases_lt, cases_eq}
-use Rattle.std.proofs.lemmas.List.{ext_get_or, get_or-take, get_or-drop, length-take, length-take-le, take-append-le, take-append-drop, map-append, append-nil, length-append}
+use Rattle.std.proofs.lemmas.List.{ext_get_or, get_or-take, length-take, length-take-le, take-append-le, take-append-drop, map-append, append-nil, length-append}
 use Rattle.std.proofs.lemmas.Nat.{and_le_l, and_le_r, one_shl, ones-le}
 use Rattle.std.proofs.lemmas.Nat.Bits.{bit_at_and, bit_at_or, bit_at_not, bit_at_above, bit_at-lt, bit_at-zero, bit_at-pow_same, bit_at-pow_other, bit_at-trailing_zeros}
+use Rattle.bit_vectors.specs.Eye.{ShowsFirst}
 use Rattle.bit_vectors.specs.Vectors.{number_bits}
 use Rattle.bit_vectors.proofs.NumberBits.{length-number_bits, number_bits-more}
-use Rattle.bit_vectors.proofs.Numbers.{bit_at_mod, bit_at_shl, number_bits-cat, number_bits-mod}
+use Rattle.bit_vectors.proofs.Numbers.{number_bits-cat, number_bits-mod}
 use Rattle.bit_vectors.proofs.FrontWord.{shl_word}
 use Rattle.run_code.proofs.Gathering.{ones_below-past, word_extract, word_extract-lowest, word_extract-none, length-word_extract, ones-lowest, without_below, lowest_weight, places_of_word, bit_is}
 use Rattle.run_code.specs.Places.{places_down}
@@ -258,9 +259,6 @@ span_skip b index all some within is_b =
     rw (parts, span_cat (64 * (index - 1)) 64 (all - 64 * index) b, next, empty) (append-nil (ones_span (64 * index) (all - 64 * index) b))
 
 -- the given number of first bits of a word are the first of these bits
-abbrev pub ShowsFirst : ℕ → List Bool → ℕ → Type 0
-ShowsFirst count bits word = (k : ℕ) → k < count → eqb (bit_at word (63 - k)) 1 ≡ get_or bits k false
-
 pub shown_take : (bits : List Bool) (word width : ℕ) → ShowsFirst width bits word → width ≤ 64 → width ≤ length bits → take width (number_bits 64 word) ≡ take width bits
 shown_take bits word width shows most enough =
     ext_get_or false (take width (number_bits 64 word)) (take width bits)
@@ -268,14 +266,6 @@ shown_take bits word width shows most enough =
     (λ k lt.
     let below : k < width = omega (arith, length-take width (number_bits 64 word)) in
     get_or-take width (number_bits 64 word) k false below ∙ bit_is word k (omega arith) ∙ shows k below ∙ sym (get_or-take width bits k false below))
-
--- the bits after the given number of those that are shown
-pub ShowsFirst-after : (bits : List Bool) (word shown count : ℕ) → shown ≤ 64 → count ≤ shown → ShowsFirst shown bits word → ShowsFirst (shown - count) (drop count bits) (word * 2 ^ (count % 64) % 2 ^ 64)
-ShowsFirst-after bits word shown count most le shows =
-    λ k lt.
-    let by : count % 64 ≡ count = omega arith in
-    let weight : 63 - k - count ≡ 63 - (count + k) = omega arith in
-    rw by (ap (λ (b : ℕ). eqb b 1) (bit_at_mod (word * 2 ^ count) 64 (63 - k) (omega arith) ∙ bit_at_shl word count (63 - k) (omega arith)) ∙ rw weight (shows (count + k) (omega arith) ∙ sym (get_or-drop count bits k false)))
 
 -- one word more
 pub spread_more : (old left a new b : List Bool) (index all at word : ℕ) → 0 < index → 64 * index ≤ all → IsWord b (index - 1) at → IsWord new (index - 1) word → ((k : ℕ) → k / 64 ≢ index - 1 → get_or new k false ≡ get_or a k false)

@@ -4,6 +4,7 @@
 mod descending;
 mod edge;
 mod extraction;
+mod held;
 mod inverse;
 mod laws;
 mod matching;

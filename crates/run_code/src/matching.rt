@@ -6,8 +6,8 @@ ghost use Rattle.bit_vectors.specs.Reading.{MovesOn, Gives, IsFirstFault, parse_
 ghost use Rattle.run_code.specs.Runs.{run_bits};
 
 use crate::descending::ones_down;
+use crate::held::{Held, MANY_BITS};
 use bit_vectors::{BitEye, BitFault, Bits};
-use count_code::match_count;
 
 /// Takes the run word of `v`. The first bit that differs from it is wrong, and the bits end early if all that
 /// are left are a proper prefix of it.
@@ -23,16 +23,22 @@ pub fn match_runs(eye: &mut BitEye, v: &Bits) -> Result<(), BitFault>
     match_words(eye, v)
 }
 
-/// Takes the word of each 1 of `v`, from the highest place down, and the end.
+/// Takes the word of each 1 of `v`, from the highest place down, and the end, as many at once as fit in 64 bits.
 fn match_words(eye: &mut BitEye, v: &Bits) -> Result<(), BitFault>
     ensures moves { MovesOn eye.old eye.new }
     ensures reading { Gives (λ _. tt) result eye.new
         (parse_word (run_bits v.now) (bits_left eye.old)) }
 {
     let mut below = v.len();
+    let mut held = Held::none();
     for place in ones_down(v) {
-        match_count(eye, below - place)?;
+        if held.width > MANY_BITS {
+            eye.match_word(held.value, held.width)?;
+            held = Held::none();
+        }
+        held = held.with_count(below - place);
         below = place;
     }
-    eye.match_number(0b10, 2)
+    let all = held.with_end();
+    eye.match_word(all.value, all.width)
 }

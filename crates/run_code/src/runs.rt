@@ -6,8 +6,9 @@ ghost use Rattle.bit_vectors.specs.Reading.{MovesOn, Gives, IsFirstFault};
 ghost use Rattle.run_code.specs.Runs.{run_bits, IsRunWord, parse_vector};
 
 use crate::descending::ones_down;
+use crate::held::{Held, MANY_BITS};
 use bit_vectors::{BitEye, BitFault, BitPen, Bits};
-use count_code::{Count, put_count, put_end, take_count};
+use count_code::{Ahead, Count, take_count_with};
 
 /// Appends the run word of a vector: from its highest place down, for each 1 the count of places from the
 /// 1 before it, or from the number of places, and then the end. It has at most 4 bits for each place and
@@ -19,11 +20,17 @@ pub fn put_runs(pen: &mut BitPen, v: &Bits)
     ensures room { pen.new.room ≡ pen.old.room }
 {
     let mut below = v.len();
+    let mut held = Held::none();
     for place in ones_down(v) {
-        put_count(pen, below - place);
+        if held.width > MANY_BITS {
+            pen.put_word(held.value, held.width);
+            held = Held::none();
+        }
+        held = held.with_count(below - place);
         below = place;
     }
-    put_end(pen);
+    let all = held.with_end();
+    pen.put_word(all.value, all.width);
 }
 
 /// Takes the run word of a vector with as many places as `into`, which is then that vector. The first bit
@@ -53,7 +60,8 @@ fn read_runs(eye: &mut BitEye, into: &mut Bits) -> Result<(), BitFault>
 {
     into.clear();
     let mut below = into.len();
-    while let Count::Value(distance) = take_count(eye, below)? {
+    let mut ahead = Ahead::none();
+    while let Count::Value(distance) = take_count_with(eye, &mut ahead, below)? {
         below -= distance;
         into.set(below, true);
     }

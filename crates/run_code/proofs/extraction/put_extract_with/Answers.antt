@@ -1,7 +1,7 @@
 use Rattle.std.proofs.Common.{◌≡◌, ◌+◌, ◌-◌, ◌*◌, ◌^◌, ◌<◌, ◌≤◌, ◌++◌, ℕ, zero, suc, Bool, false, List, [], length, get_or, refl, sym, ap, ◌∙◌, arith, append_assoc}
 use Rattle.std.specs.Int.RustNames.{count_ones}
-use Rattle.std.proofs.lemmas.Nat.{ones-le, pow-add}
-use Rattle.std.proofs.Math.Nat.{mul-le-mul_right, pow-le-pow_right}
+use Rattle.std.proofs.lemmas.Nat.{ones-le}
+use Rattle.std.proofs.Math.Nat.{pow-le-pow_right}
 use Rattle.std.proofs.lemmas.List.{length-append, append-nil}
 use Rattle.std.proofs.lemmas.Nat.Bits.{bit_at-zero}
 use Rattle.bit_vectors.specs.Vectors.{bits_number, number_bits}
@@ -10,13 +10,9 @@ use Rattle.bit_vectors.proofs.NumberBits.{length-number_bits}
 use Rattle.run_code.specs.Places.{ones_from, places_before, places_down}
 use Rattle.run_code.specs.Extraction.{bits_at, extract}
 use Rattle.run_code.proofs.Ones.{ones_below, length-places_down}
-use Rattle.run_code.proofs.Gathering.{word_extract, gathered_bits, word_number_below, places_before_is, places_before_all, before_step, before_ones, same_lengths}
+use Rattle.run_code.proofs.Gathering.{word_extract, gathered_bits, word_number_below, places_before_is, places_before_all, before_step, before_ones, same_lengths, no_number, fits_word}
 use Rattle.run_code.proofs.extraction.put_extract_with.Goals as goal
 use Rattle.run_code.proofs.extraction.put_extract_with.Goals.{After-word-at, then-count-more-gt64, else-count-more-gt64}
-
-no_number : (n : ℕ) → number_bits 0 n ≡ []
-unfolding number_bits
-no_number n = refl
 
 pub loop-words-init : goal.loop-words-init
 loop-words-init c =
@@ -90,11 +86,6 @@ loop-words-preserved-then-more-gt-MANY c =
     }
 
 -- ---- the held bits, and those of a word
-
-fits_word : (held count more : ℕ) → held < 2 ^ count → (held + 1) * 2 ^ more ≤ 2 ^ (count + more)
-fits_word held count more small =
-    let next : held + 1 ≤ 2 ^ count = omega (arith, small) in
-    rw (pow-add 2 count more) (mul-le-mul_right (2 ^ more) next)
 
 fits_64 : (held count more : ℕ) → held < 2 ^ count → count + more ≤ 64 → (held + 1) * 2 ^ more ≤ 2 ^ 64
 fits_64 held count more small le =

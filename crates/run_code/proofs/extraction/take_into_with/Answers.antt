@@ -4,7 +4,8 @@ use Rattle.std.proofs.lemmas.Bool.{true≢false}
 use Rattle.std.specs.Int.RustNames.{count_ones}
 use Rattle.std.proofs.lemmas.Nat.{ones-le}
 use Rattle.std.proofs.lemmas.List.{length-append, length-drop}
-use Rattle.bit_vectors.specs.Eye.{bits_left}
+use Rattle.bit_vectors.specs.Eye.{bits_left, ShowsFirst}
+use Rattle.bit_vectors.proofs.FrontWord.{ShowsFirst-after}
 use Rattle.bit_vectors.specs.Words.{word_count}
 use Rattle.bit_vectors.proofs.EyeReading.{MovesOn-refl, MovesOn-then}
 use Rattle.run_code.specs.Places.{places_down}
@@ -13,7 +14,7 @@ use Rattle.run_code.proofs.InverseBits.{length-bits_at}
 use Rattle.run_code.proofs.Ones.{ones_below, places_down_apart, places_down_has, length-places_down, one_or_zero}
 use Rattle.run_code.proofs.Filling.{OnlyAt, IsExact-filled_at, parse_filled-few}
 use Rattle.run_code.proofs.Gathering.{ones_step, ones_below-past}
-use Rattle.run_code.proofs.Spreading.{ones_span, span_none, span_all, span_skip, places_parts, spread_more, spread_others, ShowsFirst, ShowsFirst-after, shown_take}
+use Rattle.run_code.proofs.Spreading.{ones_span, span_none, span_all, span_skip, places_parts, spread_more, spread_others, shown_take}
 use Rattle.run_code.proofs.extraction.take_into_with.Goals as goal
 use Rattle.run_code.proofs.extraction.take_into_with.Goals.{After-word-at, Then-shown-count-2, then-shown-count+else-shown-count-2, else-shown-count}
 

@@ -1,9 +1,9 @@
 use Rattle.std.proofs.Common.{◌≡◌, ◌-◌, ◌*◌, ◌++◌, ◌≤◌, length}
-use Rattle.bit_vectors.specs.Eye.{bits_left}
+use Rattle.bit_vectors.specs.Eye.{bits_left, ShowsFirst}
 use Rattle.bit_vectors.specs.Reading.{MovesOn}
 use Rattle.bit_vectors.specs.Words.{word_count}
 use Rattle.run_code.specs.Extraction.{bits_at, SameOutside}
-use Rattle.run_code.proofs.Spreading.{ones_span, ShowsFirst}
+use Rattle.run_code.proofs.Spreading.{ones_span}
 use Rattle.run_code.proofs.extraction.take_into_with.Given as goal
 
 -- the bits at the ones of the words from this index on were taken, and the next ones are shown

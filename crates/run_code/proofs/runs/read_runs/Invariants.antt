@@ -1,6 +1,7 @@
 use Rattle.std.proofs.Common.{◌≡◌, ◌<◌, ◌≤◌, length, ℕ}
 use Rattle.bit_vectors.specs.Eye.{bits_left}
 use Rattle.bit_vectors.specs.Reading.{MovesOn}
+use Rattle.count_code.specs.Counts.{AreAhead}
 use Rattle.run_code.specs.Runs.{parse_ones, parse_vector}
 use Rattle.run_code.proofs.runs.read_runs.Given as goal
 
@@ -10,6 +11,7 @@ invariant-loop-distance l = record {
   within : l.below ≤ length l.into;
   places : length l.into ≡ length l.fn.into;
   moves : MovesOn l.fn.eye l.eye;
+  ahead : AreAhead (bits_left l.eye) l.ahead;
   same : (most : ℕ) × (l.below < most) × (parse_vector (length l.fn.into) (bits_left l.fn.eye) ≡ parse_ones most l.below l.into (bits_left l.eye));
 }
 

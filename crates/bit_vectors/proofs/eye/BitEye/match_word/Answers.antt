@@ -1,6 +1,6 @@
 use Rattle.bit_vectors.proofs.SameWord.{matched, matched_only, matched_fault}
 use Rattle.bit_vectors.specs.Vectors.{number_bits}
-use Rattle.bit_vectors.proofs.eye.BitEye.match_number.Goals as goal
+use Rattle.bit_vectors.proofs.eye.BitEye.match_word.Goals as goal
 
 pub returns-clause-word : goal.returns-clause-word
 returns-clause-word c = matched (number_bits c.args.width c.args.value) c.args.self.now c.match_ahead.new.self c.match_ahead.result c.match_ahead.ensures.reading
