@@ -77,27 +77,11 @@ fn schedules(rt: HostRuntime) -> Result<(), Fail> {
     Ok(())
 }
 
+const LAST: u32 = u32::MAX;
+
 /// Numbers that are asked for, also far ahead and back again.
 const NUMBERS: [u32; 19] = [
-    0,
-    1,
-    3,
-    4,
-    5,
-    8,
-    9,
-    10,
-    13,
-    14,
-    30,
-    2,
-    9,
-    29,
-    199,
-    200,
-    70_000,
-    201,
-    u32::MAX,
+    0, 1, 3, 4, 5, 8, 9, 10, 13, 14, 30, 2, 9, 29, 199, 200, 70_000, 201, LAST,
 ];
 
 fn lookup(alloc: Global, text: &[u8]) -> Result<Lookup, SideFault> {

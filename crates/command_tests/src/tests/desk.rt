@@ -1,5 +1,6 @@
 //! A run over a desk in memory, and what it leaves there.
 
+use super::samples::digits_of;
 use bit_vectors::NoMemory;
 use desk_ports::{Call, MemDesk, Outlet};
 use pocket_cmd::{Refusal, Status, pocket};
@@ -172,11 +173,11 @@ pub fn bytes_of(alloc: Global, text: &str) -> Result<Vec<u8>, AllocError> {
     Ok(bytes)
 }
 
-/// The bytes of several texts of hexadecimal digits.
-pub fn bytes_of_all(alloc: Global, texts: &[&str]) -> Result<Vec<u8>, AllocError> {
+/// The bytes of words, each of which is the name of a packet or has the digits of a byte.
+pub fn bytes_of_packets(alloc: Global, text: &str) -> Result<Vec<u8>, AllocError> {
     let mut bytes = Vec::new(alloc);
-    for text in texts {
-        bytes.extend_from_slice(&bytes_of(alloc, text)?)?;
+    for word in text.split_ascii_whitespace() {
+        bytes.extend_from_slice(&bytes_of(alloc, digits_of(word))?)?;
     }
     Ok(bytes)
 }

@@ -29,78 +29,66 @@ pub enum End {
 /// The calls that fail, and how the run then ends.
 pub type Row = (&'static [(Call, u32)], End);
 
-/// What a verb is given, whether a call moves one byte at most, what it writes if no call fails, and rows of calls that
-/// do.
-pub struct Table {
+/// What a verb is given, what it writes if no call fails, and rows of calls that do, at a desk that moves whole pieces and
+/// at one that moves single bytes.
+pub struct Faults {
     pub words: &'static str,
     pub input: Option<&'static [u8]>,
     pub side: Option<&'static [u8]>,
-    pub one_byte: bool,
     pub output: &'static [u8],
     pub report: &'static [u8],
-    pub rows: &'static [Row],
+    pub whole: &'static [Row],
+    pub single: &'static [Row],
 }
 
 /// Of the worked restore.
-static RESTORES: [Table; 2] = [
-    // The packets end at the bytes 10, 20 and 29.
-    Table {
-        words: EIGHT_BITS,
-        input: Some(PLAYED),
-        side: None,
-        one_byte: true,
-        output: RESTORED,
-        report: REPORT,
-        rows: &[
-            (&[(Call::OpenIn, 1), (Call::OpenOut, 1)], End::Unread(0, 0)),
-            (&[(Call::OpenIn, 2)], End::Done),
-            (&[(Call::OpenOut, 1)], End::Unwritten(0, 0)),
-            (&[(Call::OpenOut, 2)], End::Unwritten(0, 0)),
-            (&[(Call::OpenOut, 3)], End::Done),
-            (&[(Call::Read, 1)], End::Unread(0, 23)),
-            (&[(Call::Read, 10)], End::Unread(0, 23)),
-            (&[(Call::Read, 11)], End::Unread(1, 23)),
-            (&[(Call::Read, 20)], End::Unread(1, 23)),
-            (&[(Call::Read, 21)], End::Unread(2, 23)),
-            (&[(Call::Read, 30)], End::Unread(3, 34)),
-            (&[(Call::Read, 31)], End::Done),
-            (&[(Call::Finish, 1)], End::Unwritten(3, 44)),
-            (&[(Call::Finish, 2)], End::HalfKept),
-            (&[(Call::Finish, 3)], End::Done),
-        ],
-    },
+static RESTORES: [Faults; 1] = [Faults {
+    words: EIGHT_BITS,
+    input: Some(PLAYED),
+    side: None,
+    output: RESTORED,
+    report: REPORT,
     // One reading has the whole input, and the next one meets its end.
-    Table {
-        words: EIGHT_BITS,
-        input: Some(PLAYED),
-        side: None,
-        one_byte: false,
-        output: RESTORED,
-        report: REPORT,
-        rows: &[
-            (&[(Call::Read, 2)], End::Unread(3, 34)),
-            (&[(Call::Read, 3)], End::Done),
-            (&[(Call::Write, 1)], End::Unwritten(0, 0)),
-            (&[(Call::Write, 2)], End::Unwritten(0, 23)),
-            (&[(Call::Write, 3)], End::Unwritten(1, 23)),
-            (&[(Call::Write, 4)], End::Unwritten(2, 23)),
-            (&[(Call::Write, 5)], End::Unwritten(2, 34)),
-            (&[(Call::Write, 6)], End::Unwritten(3, 34)),
-            (&[(Call::Write, 7)], End::Done),
-        ],
-    },
-];
+    whole: &[
+        (&[(Call::Read, 2)], End::Unread(3, 34)),
+        (&[(Call::Read, 3)], End::Done),
+        (&[(Call::Write, 1)], End::Unwritten(0, 0)),
+        (&[(Call::Write, 2)], End::Unwritten(0, 23)),
+        (&[(Call::Write, 3)], End::Unwritten(1, 23)),
+        (&[(Call::Write, 4)], End::Unwritten(2, 23)),
+        (&[(Call::Write, 5)], End::Unwritten(2, 34)),
+        (&[(Call::Write, 6)], End::Unwritten(3, 34)),
+        (&[(Call::Write, 7)], End::Done),
+    ],
+    // The packets end at the bytes 10, 20 and 29.
+    single: &[
+        (&[(Call::OpenIn, 1), (Call::OpenOut, 1)], End::Unread(0, 0)),
+        (&[(Call::OpenIn, 2)], End::Done),
+        (&[(Call::OpenOut, 1)], End::Unwritten(0, 0)),
+        (&[(Call::OpenOut, 2)], End::Unwritten(0, 0)),
+        (&[(Call::OpenOut, 3)], End::Done),
+        (&[(Call::Read, 1)], End::Unread(0, 23)),
+        (&[(Call::Read, 10)], End::Unread(0, 23)),
+        (&[(Call::Read, 11)], End::Unread(1, 23)),
+        (&[(Call::Read, 20)], End::Unread(1, 23)),
+        (&[(Call::Read, 21)], End::Unread(2, 23)),
+        (&[(Call::Read, 30)], End::Unread(3, 34)),
+        (&[(Call::Read, 31)], End::Done),
+        (&[(Call::Finish, 1)], End::Unwritten(3, 44)),
+        (&[(Call::Finish, 2)], End::HalfKept),
+        (&[(Call::Finish, 3)], End::Done),
+    ],
+}];
 
-static OTHERS: [Table; 8] = [
-    // Each packet is written at once; the first has ten bytes.
-    Table {
+static OTHERS: [Faults; 5] = [
+    Faults {
         words: COMPRESS,
         input: Some(RECORDING),
         side: None,
-        one_byte: false,
         output: STORE,
         report: &[],
-        rows: &[
+        // Each packet is written at once; the first has ten bytes.
+        whole: &[
             (&[(Call::OpenIn, 1), (Call::OpenOut, 1)], End::Unread(0, 0)),
             (&[(Call::OpenIn, 2)], End::Done),
             (&[(Call::OpenOut, 1)], End::Unwritten(0, 0)),
@@ -114,31 +102,36 @@ static OTHERS: [Table; 8] = [
             (&[(Call::Finish, 1)], End::Unwritten(37, 0)),
             (&[(Call::Finish, 2)], End::Done),
         ],
+        single: &[],
     },
-    // A schedule is opened and read before anything else is opened.
-    Table {
+    Faults {
         words: BY_PLAN,
         input: Some(RECORDING),
         side: Some(b"9,9,1,p"),
-        one_byte: false,
         output: STORE,
         report: &[],
-        rows: &[
+        // A schedule is opened and read before anything else is opened.
+        whole: &[
             (&[(Call::OpenIn, 1), (Call::OpenOut, 1)], End::Unread(0, 0)),
             (&[(Call::OpenIn, 2), (Call::OpenOut, 1)], End::Unread(0, 0)),
             (&[(Call::Read, 1), (Call::OpenOut, 1)], End::Unread(0, 0)),
             (&[(Call::OpenIn, 3), (Call::OpenOut, 2)], End::Done),
         ],
+        single: &[],
     },
-    // Ten reads move the script, and one meets its end. The packets end at the bytes 10, 20, 28 and 37.
-    Table {
+    Faults {
         words: BY_SCRIPT,
         input: Some(STORE),
         side: Some(b"drop,2,2,1"),
-        one_byte: true,
         output: PLAYED,
         report: PLAY_REPORT,
-        rows: &[
+        // The script is read by two readings, and then the store.
+        whole: &[
+            (&[(Call::Read, 4)], End::Unread(29, 0)),
+            (&[(Call::Read, 5)], End::Done),
+        ],
+        // Ten reads move the script, and one meets its end. The packets end at the bytes 10, 20, 28 and 37.
+        single: &[
             (&[(Call::OpenIn, 1), (Call::OpenOut, 1)], End::Unread(0, 0)),
             (&[(Call::OpenIn, 2), (Call::OpenOut, 1)], End::Unread(0, 0)),
             (&[(Call::OpenOut, 1)], End::Unwritten(0, 0)),
@@ -163,28 +156,18 @@ static OTHERS: [Table; 8] = [
             (&[(Call::Finish, 2)], End::HalfKept),
         ],
     },
-    // The script is read by two readings, and then the store.
-    Table {
-        words: BY_SCRIPT,
-        input: Some(STORE),
-        side: Some(b"drop,2,2,1"),
-        one_byte: false,
-        output: PLAYED,
-        report: PLAY_REPORT,
-        rows: &[
-            (&[(Call::Read, 4)], End::Unread(29, 0)),
-            (&[(Call::Read, 5)], End::Done),
-        ],
-    },
-    // The first line has 21 bytes, the last ten.
-    Table {
+    Faults {
         words: LIST,
         input: Some(PLAYED),
         side: None,
-        one_byte: true,
         output: LISTING,
         report: &[],
-        rows: &[
+        whole: &[
+            (&[(Call::Read, 2)], End::Unread(72, 0)),
+            (&[(Call::Read, 3)], End::Done),
+        ],
+        // The first line has 21 bytes, the last ten.
+        single: &[
             (&[(Call::OpenIn, 1), (Call::OpenOut, 1)], End::Unread(0, 0)),
             (&[(Call::OpenIn, 2)], End::Done),
             (&[(Call::OpenOut, 1)], End::Unwritten(0, 0)),
@@ -201,42 +184,14 @@ static OTHERS: [Table; 8] = [
             (&[(Call::Finish, 2)], End::Done),
         ],
     },
-    Table {
-        words: LIST,
-        input: Some(PLAYED),
-        side: None,
-        one_byte: false,
-        output: LISTING,
-        report: &[],
-        rows: &[
-            (&[(Call::Read, 2)], End::Unread(72, 0)),
-            (&[(Call::Read, 3)], End::Done),
-        ],
-    },
-    Table {
+    Faults {
         words: THREE,
         input: None,
         side: None,
-        one_byte: true,
         output: SUMMARY,
         report: &[],
-        rows: &[
-            (&[(Call::OpenOut, 1)], End::Unwritten(0, 0)),
-            (&[(Call::Write, 1)], End::Unwritten(0, 0)),
-            (&[(Call::Write, 11)], End::Unwritten(10, 0)),
-            (&[(Call::Write, 72)], End::Unwritten(71, 0)),
-            (&[(Call::Finish, 1)], End::Unwritten(72, 0)),
-        ],
-    },
-    // Nothing is read, nothing more is opened, and the summary is written in one piece.
-    Table {
-        words: THREE,
-        input: None,
-        side: None,
-        one_byte: false,
-        output: SUMMARY,
-        report: &[],
-        rows: &[(
+        // Nothing is read, nothing more is opened, and the summary is written in one piece.
+        whole: &[(
             &[
                 (Call::OpenIn, 1),
                 (Call::Read, 1),
@@ -246,6 +201,13 @@ static OTHERS: [Table; 8] = [
             ],
             End::Done,
         )],
+        single: &[
+            (&[(Call::OpenOut, 1)], End::Unwritten(0, 0)),
+            (&[(Call::Write, 1)], End::Unwritten(0, 0)),
+            (&[(Call::Write, 11)], End::Unwritten(10, 0)),
+            (&[(Call::Write, 72)], End::Unwritten(71, 0)),
+            (&[(Call::Finish, 1)], End::Unwritten(72, 0)),
+        ],
     },
 ];
 
@@ -269,23 +231,29 @@ fn ending<'a>(end: End, output: &'a [u8], report: &'a [u8]) -> Ending<'a> {
     }
 }
 
-fn assert_table(rt: &(impl Abort + AllocGlobal), table: &Table) -> Result<(), Fail> {
-    for (fails, end) in table.rows {
+fn assert_fault_rows(
+    rt: &(impl Abort + AllocGlobal),
+    faults: &Faults,
+    one_byte: bool,
+    rows: &[Row],
+) -> Result<(), Fail> {
+    for (fails, end) in rows {
         let case = Case {
-            words: table.words,
-            input: table.input,
-            side: table.side,
-            one_byte: table.one_byte,
+            words: faults.words,
+            input: faults.input,
+            side: faults.side,
+            one_byte,
             fails,
         };
-        assert_ending(rt, &case, &ending(*end, table.output, table.report))?;
+        assert_ending(rt, &case, &ending(*end, faults.output, faults.report))?;
     }
     Ok(())
 }
 
-pub fn assert_tables(rt: &(impl Abort + AllocGlobal), tables: &[Table]) -> Result<(), Fail> {
-    for table in tables {
-        assert_table(rt, table)?;
+pub fn assert_faults(rt: &(impl Abort + AllocGlobal), verbs: &[Faults]) -> Result<(), Fail> {
+    for faults in verbs {
+        assert_fault_rows(rt, faults, false, faults.whole)?;
+        assert_fault_rows(rt, faults, true, faults.single)?;
     }
     Ok(())
 }
@@ -346,14 +314,14 @@ fn assert_cuts(rt: &(impl Abort + AllocGlobal)) -> Result<(), Fail> {
 
 #[test]
 fn a_restore_at_each_fault(rt: HostRuntime) -> Result<(), Fail> {
-    assert_tables(&rt, &RESTORES)?;
+    assert_faults(&rt, &RESTORES)?;
     assert_writes(&rt)?;
     assert_cuts(&rt)
 }
 
 #[test]
 fn calls_of_other_verbs(rt: HostRuntime) -> Result<(), Fail> {
-    assert_tables(&rt, &OTHERS)
+    assert_faults(&rt, &OTHERS)
 }
 
 /// Words, the input that is held for them, and no other.

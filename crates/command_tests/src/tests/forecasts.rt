@@ -1,8 +1,8 @@
 //! Worked forecasts: of a thousand packets and of few, scripts and schedules that are refused, and a desk that fails.
 
-use super::desk::{Case, Ending, assert_ending, done, front, refused, with_both, words_alone};
-use super::rows::Bytes::Text;
-use super::rows::{Row, Wrong, assert_rows, assert_wrong_words};
+use super::desk::{Case, assert_ending, done, refused, with_both, words_alone};
+use super::faults::{End, Faults, assert_faults};
+use super::rows::{Form, Table, Wrong, assert_refused, assert_rows, assert_wrong_words};
 use desk_ports::Call;
 use pocket_cmd::Refusal;
 use std::process::Abort;
@@ -11,102 +11,44 @@ use std::test::Fail;
 /// The script is held as `a`, the schedule as `s`.
 const FOUR: &str = "forecast out=b packets=4 robust=1 plan=s script=a";
 
-/// Schedules and scripts, and the texts that are written.
-static FORECASTS: [Row; 9] = [
-    Row {
-        words: "forecast out=b packets=1000 robust=2 plan=s script=a",
-        side: Some("20,999,20,p\n50,999,50,f\n100,999,100,r\n"),
-        input: Text(
-            "drop,10,10,1\ndrop,50,51,1\ndrop,190,194,1\ndrop,205,207,1\nrepeat,300,309,1,2\n\
-            drop,530,533,1\ndrop,999,999,1\n",
-        ),
-        output: Text(
-            "first,last,state\n0,9,sure\n10,10,lost\n11,49,sure\n50,51,lost\n52,189,sure\n\
-            190,194,lost\n195,199,open\n200,204,sure\n205,207,lost\n208,299,open\n300,529,sure\n\
-            530,533,lost\n534,599,open\n600,998,sure\n999,999,lost\ngaps,0,6\nend,1000,821\n",
-        ),
-        report: "",
-        refusal: None,
-    },
-    Row {
-        words: FOUR,
-        side: Some(""),
-        input: Text(""),
-        output: Text("first,last,state\n0,3,sure\ngaps,0,1\nend,4,4\n"),
-        report: "",
-        refusal: None,
-    },
+/// Scripts and the texts that are written, the words from the number of packets on, and the schedules.
+const FORECASTS: Table = Table {
+    words: "forecast out=b packets=",
+    input: Form::Text,
+    output: Form::Text,
+    header: "",
+};
+
+static WORKED: [&str; 9] = [
+    "drop,10,10,1\ndrop,50,51,1\ndrop,190,194,1\ndrop,205,207,1\nrepeat,300,309,1,2\ndrop,530,533,1\n\
+        drop,999,999,1\n|first,last,state\n0,9,sure\n10,10,lost\n11,49,sure\n50,51,lost\n52,189,sure\n\
+        190,194,lost\n195,199,open\n200,204,sure\n205,207,lost\n208,299,open\n300,529,sure\n530,533,lost\n\
+        534,599,open\n600,998,sure\n999,999,lost\ngaps,0,6\nend,1000,821\n||1000 robust=2 plan=s script=a|\
+        20,999,20,p\n50,999,50,f\n100,999,100,r\n",
+    "|first,last,state\n0,3,sure\ngaps,0,1\nend,4,4\n||4 robust=1 plan=s script=a|",
     // Nothing is delivered.
-    Row {
-        words: FOUR,
-        side: Some("0,9,1,fr"),
-        input: Text("drop,0,9,1"),
-        output: Text("first,last,state\n0,3,lost\ngaps,-,0\nend,4,0\n"),
-        report: "",
-        refusal: None,
-    },
+    "drop,0,9,1|first,last,state\n0,3,lost\ngaps,-,0\nend,4,0\n||4 robust=1 plan=s script=a|0,9,1,fr",
     // The first two are forced, and the loss of both leaves nothing sure.
-    Row {
-        words: FOUR,
-        side: Some(""),
-        input: Text("drop,0,1,1"),
-        output: Text("first,last,state\n0,1,lost\n2,3,open\ngaps,2,1\nend,4,0\n"),
-        report: "",
-        refusal: None,
-    },
-    Row {
-        words: "forecast out=b packets=1 robust=0 plan=s script=a",
-        side: Some(""),
-        input: Text("repeat,0,0,1,8"),
-        output: Text("first,last,state\n0,0,sure\ngaps,0,0\nend,1,1\n"),
-        report: "",
-        refusal: None,
-    },
+    "drop,0,1,1|first,last,state\n0,1,lost\n2,3,open\ngaps,2,1\nend,4,0\n||4 robust=1 plan=s script=a|",
+    "repeat,0,0,1,8|first,last,state\n0,0,sure\ngaps,0,0\nend,1,1\n||1 robust=0 plan=s script=a|",
     // Whole content and no mask: the packet is sure, and the next one is not.
-    Row {
-        words: "forecast out=b packets=6 robust=0 plan=s script=a",
-        side: Some("3,3,1,r\n5,5,1,f"),
-        input: Text("drop,1,2,1"),
-        output: Text(
-            "first,last,state\n0,0,sure\n1,2,lost\n3,3,sure\n4,5,open\ngaps,0,3\nend,6,2\n",
-        ),
-        report: "",
-        refusal: None,
-    },
+    "drop,1,2,1|first,last,state\n0,0,sure\n1,2,lost\n3,3,sure\n4,5,open\ngaps,0,3\nend,6,2\n||\
+        6 robust=0 plan=s script=a|3,3,1,r\n5,5,1,f",
     // The mask two packets after it: the content reaches no further.
-    Row {
-        words: "forecast out=b packets=6 robust=0 plan=s script=a",
-        side: Some("3,3,1,r\n4,4,1,f"),
-        input: Text("drop,1,2,1"),
-        output: Text("first,last,state\n0,0,sure\n1,2,lost\n3,5,sure\ngaps,0,3\nend,6,4\n"),
-        report: "",
-        refusal: None,
-    },
+    "drop,1,2,1|first,last,state\n0,0,sure\n1,2,lost\n3,5,sure\ngaps,0,3\nend,6,4\n||6 robust=0 plan=s script=a|\
+        3,3,1,r\n4,4,1,f",
     // The last row that names a packet decides, of the required robustness and of the copies.
-    Row {
-        words: "forecast out=b packets=6 robust=0 plan=s script=a",
-        side: Some("robust,0,9,1,7\nrobust,0,9,3,0"),
-        input: Text("drop,1,4,1\nrepeat,2,2,2,1"),
-        output: Text(
-            "first,last,state\n0,0,sure\n1,1,lost\n2,2,sure\n3,4,lost\n5,5,sure\ngaps,0,3\nend,6,3\n",
-        ),
-        report: "",
-        refusal: None,
-    },
+    "drop,1,4,1\nrepeat,2,2,2,1|\
+        first,last,state\n0,0,sure\n1,1,lost\n2,2,sure\n3,4,lost\n5,5,sure\ngaps,0,3\nend,6,3\n||\
+        6 robust=0 plan=s script=a|robust,0,9,1,7\nrobust,0,9,3,0",
     // No row is about these packets.
-    Row {
-        words: "forecast out=b packets=2 robust=7 plan=s script=a",
-        side: Some("8,4294967295,1,p\nrobust,9,9,1,0"),
-        input: Text("drop,2,4294967295,4294967295"),
-        output: Text("first,last,state\n0,1,sure\ngaps,0,1\nend,2,2\n"),
-        report: "",
-        refusal: None,
-    },
+    "drop,2,4294967295,4294967295|first,last,state\n0,1,sure\ngaps,0,1\nend,2,2\n||2 robust=7 plan=s script=a|\
+        8,4294967295,1,p\nrobust,9,9,1,0",
 ];
 
 #[test]
 fn forecasts(rt: HostRuntime) -> Result<(), Fail> {
-    assert_rows(&rt, &FORECASTS)
+    assert_rows(&rt, &FORECASTS, &WORKED)
 }
 
 /// A schedule, a script, and what is answered to them.
@@ -126,9 +68,6 @@ static REFUSED: [(&str, &str, Refusal); 9] = [
 /// No output is opened.
 static NO_OUTPUT: [(Call, u32); 1] = [(Call::OpenOut, 1)];
 
-/// No output is opened, and neither is the script.
-static NO_SCRIPT: [(Call, u32); 2] = [(Call::OpenIn, 2), (Call::OpenOut, 1)];
-
 #[test]
 fn refusals(rt: HostRuntime) -> Result<(), Fail> {
     for (plan, script, refusal) in &REFUSED {
@@ -144,16 +83,13 @@ fn assert_first(
     script: &[u8],
     refusal: Refusal,
 ) -> Result<(), Fail> {
-    let case = Case {
-        fails: &NO_SCRIPT,
-        ..with_both(FOUR, script, plan)
-    };
-    assert_ending(rt, &case, &refused(refusal, &[], &[]))?;
+    let case = with_both(FOUR, script, plan);
+    assert_refused(rt, case, refusal)?;
     let without = Case {
         input: None,
         ..case
     };
-    assert_ending(rt, &without, &refused(refusal, &[], &[]))
+    assert_refused(rt, without, refusal)
 }
 
 /// Refused before an output is opened.
@@ -207,63 +143,48 @@ const SCRIPT: &[u8] = b"drop,2,2,1";
 /// The lines end at the bytes 17, 26, 35, 44, 53 and 61.
 const TEXT: &[u8] = b"first,last,state\n0,1,sure\n2,2,lost\n3,3,sure\ngaps,0,2\nend,4,3\n";
 
-/// How a run ends: all was done, reading failed, or writing failed after so many bytes.
-#[derive(Clone, Copy)]
-enum End {
-    Done,
-    Unread,
-    Unwritten(usize),
-}
-
-fn ending(end: End) -> Ending<'static> {
-    match end {
-        End::Done => done(TEXT, &[]),
-        End::Unread => refused(Refusal::ReadFault, &[], &[]),
-        End::Unwritten(written) => refused(Refusal::WriteFault, front(TEXT, written), &[]),
-    }
-}
-
-/// The calls that fail, whether a call moves one byte at most, and how the run then ends.
-static FAULTS: [(&[(Call, u32)], bool, End); 24] = [
-    (&[(Call::OpenIn, 1), (Call::OpenOut, 1)], false, End::Unread),
-    (&[(Call::OpenIn, 2), (Call::OpenOut, 1)], false, End::Unread),
-    (&[(Call::OpenIn, 3)], false, End::Done),
-    // Two readings of the schedule, and two of the script.
-    (&[(Call::Read, 1), (Call::OpenIn, 2)], false, End::Unread),
-    (&[(Call::Read, 2), (Call::OpenIn, 2)], false, End::Unread),
-    (&[(Call::Read, 3), (Call::OpenOut, 1)], false, End::Unread),
-    (&[(Call::Read, 4), (Call::OpenOut, 1)], false, End::Unread),
-    (&[(Call::Read, 5)], false, End::Done),
-    (&[(Call::Read, 9), (Call::OpenIn, 2)], true, End::Unread),
-    (&[(Call::Read, 20), (Call::OpenOut, 1)], true, End::Unread),
-    (&[(Call::Read, 21)], true, End::Done),
-    (&[(Call::OpenOut, 1)], false, End::Unwritten(0)),
-    (&[(Call::OpenOut, 2)], false, End::Done),
-    (&[(Call::Write, 1)], false, End::Unwritten(0)),
-    (&[(Call::Write, 2)], false, End::Unwritten(17)),
-    (&[(Call::Write, 3)], false, End::Unwritten(26)),
-    (&[(Call::Write, 4)], false, End::Unwritten(35)),
-    // The last two lines are one piece.
-    (&[(Call::Write, 5)], false, End::Unwritten(44)),
-    (&[(Call::Write, 6)], false, End::Done),
-    (&[(Call::Write, 20)], true, End::Unwritten(19)),
-    (&[(Call::Write, 61)], true, End::Unwritten(60)),
-    (&[(Call::Write, 62)], true, End::Done),
-    (&[(Call::Finish, 1)], false, End::Unwritten(61)),
-    (&[(Call::Finish, 2)], false, End::Done),
-];
+/// The calls that fail.
+static FAILING: [Faults; 1] = [Faults {
+    words: FOUR,
+    input: Some(SCRIPT),
+    side: Some(PLAN),
+    output: TEXT,
+    report: &[],
+    whole: &[
+        (&[(Call::OpenIn, 1), (Call::OpenOut, 1)], End::Unread(0, 0)),
+        (&[(Call::OpenIn, 2), (Call::OpenOut, 1)], End::Unread(0, 0)),
+        (&[(Call::OpenIn, 3)], End::Done),
+        // Two readings of the schedule, and two of the script.
+        (&[(Call::Read, 1), (Call::OpenIn, 2)], End::Unread(0, 0)),
+        (&[(Call::Read, 2), (Call::OpenIn, 2)], End::Unread(0, 0)),
+        (&[(Call::Read, 3), (Call::OpenOut, 1)], End::Unread(0, 0)),
+        (&[(Call::Read, 4), (Call::OpenOut, 1)], End::Unread(0, 0)),
+        (&[(Call::Read, 5)], End::Done),
+        (&[(Call::OpenOut, 1)], End::Unwritten(0, 0)),
+        (&[(Call::OpenOut, 2)], End::Done),
+        (&[(Call::Write, 1)], End::Unwritten(0, 0)),
+        (&[(Call::Write, 2)], End::Unwritten(17, 0)),
+        (&[(Call::Write, 3)], End::Unwritten(26, 0)),
+        (&[(Call::Write, 4)], End::Unwritten(35, 0)),
+        // The last two lines are one piece.
+        (&[(Call::Write, 5)], End::Unwritten(44, 0)),
+        (&[(Call::Write, 6)], End::Done),
+        (&[(Call::Finish, 1)], End::Unwritten(61, 0)),
+        (&[(Call::Finish, 2)], End::Done),
+    ],
+    single: &[
+        (&[(Call::Read, 9), (Call::OpenIn, 2)], End::Unread(0, 0)),
+        (&[(Call::Read, 20), (Call::OpenOut, 1)], End::Unread(0, 0)),
+        (&[(Call::Read, 21)], End::Done),
+        (&[(Call::Write, 20)], End::Unwritten(19, 0)),
+        (&[(Call::Write, 61)], End::Unwritten(60, 0)),
+        (&[(Call::Write, 62)], End::Done),
+    ],
+}];
 
 #[test]
 fn a_forecast_at_each_fault(rt: HostRuntime) -> Result<(), Fail> {
-    for (fails, one_byte, end) in &FAULTS {
-        let case = Case {
-            one_byte: *one_byte,
-            fails,
-            ..with_both(FOUR, SCRIPT, PLAN)
-        };
-        assert_ending(&rt, &case, &ending(*end))?;
-    }
-    Ok(())
+    assert_faults(&rt, &FAILING)
 }
 
 /// Lines of words, and the place of the first wrong word in each.

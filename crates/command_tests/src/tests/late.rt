@@ -1,149 +1,58 @@
 //! Packets that come late: worked orders, and what stands if a call fails or the store is cut.
 
-use super::desk::{
-    Ending, HEADER, assert_both, bytes_of, bytes_of_all, done, joined, refused, with_input,
-};
-use super::faults::{End, Table, assert_tables};
-use super::rows::{Wrong, assert_wrong_words};
-use super::samples::{FIRST, FOURTH, SECOND, THIRD};
+use super::desk::HEADER;
+use super::faults::{End, Faults, assert_faults};
+use super::rows::{Faulty, Form, Table, Wrong, assert_faulty, assert_rows, assert_wrong_words};
 use desk_ports::Call;
 use packet_store::StoreKind;
-use pocket_cmd::Refusal;
-use std::process::Abort;
 use std::test::Fail;
 
 /// The words but for the window.
 pub const LATE: &str = "late in=a out=b report=c bits=8 apid=100 window=";
 
-/// A packet with the mask and the whole content of `FIRST`, and the count 16,383; and packets with the next counts that change
-/// nothing.
-const LAST_COUNT: &str = "00 64 FF FF 00 03 85 B8 D6 00";
+/// Packets in the order of arrival, what is restored, the report and the window.
+const ORDERS: Table = Table {
+    words: LATE,
+    input: Form::Packets,
+    output: Form::Packets,
+    header: HEADER,
+};
 
-const COUNT_0: &str = "00 64 C0 00 00 00 82";
-
-const COUNT_1: &str = "00 64 C0 01 00 00 82";
-
-const SAME_LAST_COUNT: &str = "00 64 FF FF 00 00 82";
-
-const IDLE: &str = "07 FF C0 00 00 00 00";
-
-/// A window, packets in the order of arrival, what is restored in hexadecimal, and the report after its first line.
-type Order = (
-    &'static str,
-    &'static [&'static str],
-    &'static str,
-    &'static str,
-);
-
-static ORDERS: [Order; 15] = [
-    (
-        "1",
-        &[FIRST, THIRD, SECOND, FOURTH],
-        "B0 B1 B1 B3",
-        "end,4,4,0\nlate,0\n",
-    ),
-    (
-        "0",
-        &[FIRST, THIRD, SECOND, FOURTH],
-        "B0 B1 B3",
-        "1,1,lost,0\nend,3,3,0\nlate,1\n",
-    ),
-    ("0", &[], "", "end,0,0,0\nlate,0\n"),
-    (
-        "0",
-        &[FIRST, SECOND, THIRD, FOURTH],
-        "B0 B1 B1 B3",
-        "end,4,4,0\nlate,0\n",
-    ),
-    (
-        "64",
-        &[FIRST, SECOND, THIRD, FOURTH],
-        "B0 B1 B1 B3",
-        "end,4,4,0\nlate,0\n",
-    ),
-    (
-        "3",
-        &[FOURTH, THIRD, SECOND, FIRST],
-        "B0 B1 B1 B3",
-        "end,4,4,0\nlate,0\n",
-    ),
+static WHOLE: [&str; 15] = [
+    "FIRST THIRD SECOND FOURTH|B0 B1 B1 B3|end,4,4,0\nlate,0\n|1",
+    "FIRST THIRD SECOND FOURTH|B0 B1 B3|1,1,lost,0\nend,3,3,0\nlate,1\n|0",
+    "||end,0,0,0\nlate,0\n|0",
+    "FIRST SECOND THIRD FOURTH|B0 B1 B1 B3|end,4,4,0\nlate,0\n|0",
+    "FIRST SECOND THIRD FOURTH|B0 B1 B1 B3|end,4,4,0\nlate,0\n|64",
+    "FOURTH THIRD SECOND FIRST|B0 B1 B1 B3|end,4,4,0\nlate,0\n|3",
     // The first packet comes after three with greater numbers.
-    (
-        "2",
-        &[FOURTH, THIRD, SECOND, FIRST],
-        "B1 B1 B3",
-        "0,0,lost,0\nend,3,3,0\nlate,1\n",
-    ),
+    "FOURTH THIRD SECOND FIRST|B1 B1 B3|0,0,lost,0\nend,3,3,0\nlate,1\n|2",
     // Packets of another APID are passed over.
-    (
-        "1",
-        &[IDLE, FIRST, IDLE, THIRD, IDLE, SECOND, FOURTH, IDLE],
-        "B0 B1 B1 B3",
-        "end,4,4,0\nlate,0\n",
-    ),
+    "IDLE FIRST IDLE THIRD IDLE SECOND FOURTH IDLE|B0 B1 B1 B3|end,4,4,0\nlate,0\n|1",
     // Repeats within the window and beyond it.
-    (
-        "1",
-        &[FIRST, SECOND, FIRST, THIRD, FOURTH],
-        "B0 B1 B1 B3",
-        "end,5,4,1\nlate,0\n",
-    ),
-    (
-        "1",
-        &[FIRST, SECOND, THIRD, FIRST, FOURTH],
-        "B0 B1 B1 B3",
-        "end,4,4,0\nlate,1\n",
-    ),
-    (
-        "0",
-        &[FIRST, FIRST, SECOND, SECOND],
-        "B0 B1",
-        "end,4,2,2\nlate,0\n",
-    ),
+    "FIRST SECOND FIRST THIRD FOURTH|B0 B1 B1 B3|end,5,4,1\nlate,0\n|1",
+    "FIRST SECOND THIRD FIRST FOURTH|B0 B1 B1 B3|end,4,4,0\nlate,1\n|1",
+    "FIRST FIRST SECOND SECOND|B0 B1|end,4,2,2\nlate,0\n|0",
     // Counts across the period.
-    (
-        "1",
-        &[LAST_COUNT, COUNT_1, COUNT_0],
-        "B0 B0 B0",
-        "0,16382,lost,0\nend,3,3,0\nlate,0\n",
-    ),
-    (
-        "0",
-        &[LAST_COUNT, COUNT_1, COUNT_0],
-        "B0",
-        "0,16382,lost,0\n16384,16384,lost,0\n16385,16385,gap,0\nend,2,1,0\nlate,1\n",
-    ),
+    "LAST_COUNT COUNT_1 COUNT_0|B0 B0 B0|0,16382,lost,0\nend,3,3,0\nlate,0\n|1",
+    "LAST_COUNT COUNT_1 COUNT_0|B0|0,16382,lost,0\n16384,16384,lost,0\n16385,16385,gap,0\nend,2,1,0\nlate,1\n|0",
     // No number is below 0.
-    (
-        "3",
-        &[SECOND, SAME_LAST_COUNT],
-        "B1",
-        "0,0,lost,0\n2,16382,lost,0\n16383,16383,gap,0\nend,2,1,0\nlate,0\n",
-    ),
+    "SECOND SAME_LAST_COUNT|B1|0,0,lost,0\n2,16382,lost,0\n16383,16383,gap,0\nend,2,1,0\nlate,0\n|3",
     // Nothing is known when the first one comes.
-    (
-        "2",
-        &[COUNT_1],
-        "",
-        "0,0,lost,0\n1,1,unsynced,0\nend,1,0,0\nlate,0\n",
-    ),
+    "COUNT_1||0,0,lost,0\n1,1,unsynced,0\nend,1,0,0\nlate,0\n|2",
 ];
 
 /// Stores that end inside their last packet, what stands of each, and the byte at which that packet begins.
-static CUT: [(Order, u64); 5] = [
-    (("1", &[FIRST, THIRD, SECOND, "00 64"], "B0 B1", ""), 28),
+static CUT: [Faulty; 5] = [
+    ("FIRST THIRD SECOND 00 64|B0 B1||1", 28, StoreKind::Cut),
     (
-        (
-            "0",
-            &[FIRST, THIRD, SECOND, "00 64"],
-            "B0 B1",
-            "1,1,lost,0\n",
-        ),
+        "FIRST THIRD SECOND 00 64|B0 B1|1,1,lost,0\n|0",
         28,
+        StoreKind::Cut,
     ),
-    (("2", &[FIRST, THIRD, SECOND, "00 64"], "B0", ""), 28),
-    (("3", &[FIRST, THIRD, SECOND, "00 64"], "", ""), 28),
-    (("5", &["00 64"], "", ""), 0),
+    ("FIRST THIRD SECOND 00 64|B0||2", 28, StoreKind::Cut),
+    ("FIRST THIRD SECOND 00 64|||3", 28, StoreKind::Cut),
+    ("00 64|||5", 0, StoreKind::Cut),
 ];
 
 /// Lines of words, and the place of the first wrong word in each.
@@ -186,103 +95,62 @@ const RESTORED: &[u8] = &[0xB0, 0xB1, 0xB1, 0xB3];
 const REPORT: &[u8] = b"first,last,cause,value\nend,4,4,0\nlate,0\n";
 
 /// The calls that fail. The rows of the report end at the bytes 23, 33 and 40.
-static FAILING: [Table; 2] = [
-    Table {
-        words: BY_ONE,
-        input: Some(SWAPPED),
-        side: None,
-        one_byte: false,
-        output: RESTORED,
-        report: REPORT,
-        rows: &[
-            (&[(Call::OpenIn, 1), (Call::OpenOut, 1)], End::Unread(0, 0)),
-            (&[(Call::OpenIn, 2)], End::Done),
-            (&[(Call::OpenOut, 1)], End::Unwritten(0, 0)),
-            (&[(Call::OpenOut, 2)], End::Unwritten(0, 0)),
-            (&[(Call::OpenOut, 3)], End::Done),
-            (&[(Call::Read, 1)], End::Unread(0, 23)),
-            (&[(Call::Read, 2)], End::Unread(3, 23)),
-            (&[(Call::Read, 3)], End::Done),
-            (&[(Call::Write, 1)], End::Unwritten(0, 0)),
-            (&[(Call::Write, 2)], End::Unwritten(0, 23)),
-            (&[(Call::Write, 3)], End::Unwritten(1, 23)),
-            (&[(Call::Write, 4)], End::Unwritten(2, 23)),
-            (&[(Call::Write, 5)], End::Unwritten(3, 23)),
-            (&[(Call::Write, 6)], End::Unwritten(4, 23)),
-            (&[(Call::Write, 7)], End::Unwritten(4, 33)),
-            (&[(Call::Write, 8)], End::Done),
-            (&[(Call::Finish, 1)], End::Unwritten(4, 40)),
-            (&[(Call::Finish, 2)], End::HalfKept),
-            (&[(Call::Finish, 3)], End::Done),
-        ],
-    },
-    Table {
-        words: BY_ONE,
-        input: Some(SWAPPED),
-        side: None,
-        one_byte: true,
-        output: RESTORED,
-        report: REPORT,
-        rows: &[
-            (&[(Call::Read, 1)], End::Unread(0, 23)),
-            (&[(Call::Read, 18)], End::Unread(0, 23)),
-            (&[(Call::Read, 19)], End::Unread(1, 23)),
-            (&[(Call::Read, 28)], End::Unread(1, 23)),
-            (&[(Call::Read, 29)], End::Unread(2, 23)),
-            (&[(Call::Read, 37)], End::Unread(2, 23)),
-            (&[(Call::Read, 38)], End::Unread(3, 23)),
-            (&[(Call::Read, 39)], End::Done),
-            (&[(Call::Write, 23)], End::Unwritten(0, 22)),
-            (&[(Call::Write, 37)], End::Unwritten(4, 32)),
-            (&[(Call::Write, 44)], End::Unwritten(4, 39)),
-            (&[(Call::Write, 45)], End::Done),
-        ],
-    },
-];
-
-/// Runs packets in the order of arrival. A store that is cut ends in the packet that begins at this byte.
-fn assert_order(
-    rt: &(impl Abort + AllocGlobal),
-    (window, packets, restored, rows): Order,
-    cut: Option<u64>,
-) -> Result<(), Fail> {
-    let words = joined(rt.alloc(), LATE, window)?;
-    let store = bytes_of_all(rt.alloc(), packets)?;
-    let restored = bytes_of(rt.alloc(), restored)?;
-    let report = joined(rt.alloc(), HEADER, rows)?;
-    let wanted = order_ending(cut, &restored, report.as_bytes());
-    assert_both(rt, with_input(&words, &store), &wanted)
-}
-
-fn order_ending<'a>(cut: Option<u64>, restored: &'a [u8], report: &'a [u8]) -> Ending<'a> {
-    match cut {
-        None => done(restored, report),
-        Some(byte) => {
-            let kind = StoreKind::Cut;
-            refused(Refusal::BadStore { byte, kind }, restored, report)
-        }
-    }
-}
+static FAILING: [Faults; 1] = [Faults {
+    words: BY_ONE,
+    input: Some(SWAPPED),
+    side: None,
+    output: RESTORED,
+    report: REPORT,
+    whole: &[
+        (&[(Call::OpenIn, 1), (Call::OpenOut, 1)], End::Unread(0, 0)),
+        (&[(Call::OpenIn, 2)], End::Done),
+        (&[(Call::OpenOut, 1)], End::Unwritten(0, 0)),
+        (&[(Call::OpenOut, 2)], End::Unwritten(0, 0)),
+        (&[(Call::OpenOut, 3)], End::Done),
+        (&[(Call::Read, 1)], End::Unread(0, 23)),
+        (&[(Call::Read, 2)], End::Unread(3, 23)),
+        (&[(Call::Read, 3)], End::Done),
+        (&[(Call::Write, 1)], End::Unwritten(0, 0)),
+        (&[(Call::Write, 2)], End::Unwritten(0, 23)),
+        (&[(Call::Write, 3)], End::Unwritten(1, 23)),
+        (&[(Call::Write, 4)], End::Unwritten(2, 23)),
+        (&[(Call::Write, 5)], End::Unwritten(3, 23)),
+        (&[(Call::Write, 6)], End::Unwritten(4, 23)),
+        (&[(Call::Write, 7)], End::Unwritten(4, 33)),
+        (&[(Call::Write, 8)], End::Done),
+        (&[(Call::Finish, 1)], End::Unwritten(4, 40)),
+        (&[(Call::Finish, 2)], End::HalfKept),
+        (&[(Call::Finish, 3)], End::Done),
+    ],
+    single: &[
+        (&[(Call::Read, 1)], End::Unread(0, 23)),
+        (&[(Call::Read, 18)], End::Unread(0, 23)),
+        (&[(Call::Read, 19)], End::Unread(1, 23)),
+        (&[(Call::Read, 28)], End::Unread(1, 23)),
+        (&[(Call::Read, 29)], End::Unread(2, 23)),
+        (&[(Call::Read, 37)], End::Unread(2, 23)),
+        (&[(Call::Read, 38)], End::Unread(3, 23)),
+        (&[(Call::Read, 39)], End::Done),
+        (&[(Call::Write, 23)], End::Unwritten(0, 22)),
+        (&[(Call::Write, 37)], End::Unwritten(4, 32)),
+        (&[(Call::Write, 44)], End::Unwritten(4, 39)),
+        (&[(Call::Write, 45)], End::Done),
+    ],
+}];
 
 #[test]
 fn late_packets(rt: HostRuntime) -> Result<(), Fail> {
-    for order in &ORDERS {
-        assert_order(&rt, *order, None)?;
-    }
-    Ok(())
+    assert_rows(&rt, &ORDERS, &WHOLE)
 }
 
 #[test]
 fn cut_stores_of_late_packets(rt: HostRuntime) -> Result<(), Fail> {
-    for (order, byte) in &CUT {
-        assert_order(&rt, *order, Some(*byte))?;
-    }
-    Ok(())
+    assert_faulty(&rt, &ORDERS, &CUT)
 }
 
 #[test]
 fn late_packets_at_each_fault(rt: HostRuntime) -> Result<(), Fail> {
-    assert_tables(&rt, &FAILING)
+    assert_faults(&rt, &FAILING)
 }
 
 #[test]

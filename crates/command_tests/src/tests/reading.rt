@@ -1,7 +1,7 @@
 //! Inputs that are read ahead: packets that lie across the end of what is ahead.
 
 use super::chain::{Chain, assert_whole_chain};
-use super::desk::{BY_SCRIPT, EIGHT_BITS, assert_both, bytes_of_all, done, with_both, with_input};
+use super::desk::{BY_SCRIPT, EIGHT_BITS, assert_both, bytes_of, done, with_both, with_input};
 use super::samples::{FIRST, FOURTH, REPORT, RESTORED, SECOND};
 use std::alloc::{AllocError, Global};
 use std::test::Fail;
@@ -22,13 +22,13 @@ fn long_packet(alloc: Global) -> Result<Vec<u8>, AllocError> {
 /// The packets that arrive, with two long ones after each of the first two.
 fn with_long_packets(alloc: Global) -> Result<Vec<u8>, AllocError> {
     let long = long_packet(alloc)?;
-    let mut store = bytes_of_all(alloc, &[FIRST])?;
+    let mut store = bytes_of(alloc, FIRST)?;
     store.extend_from_slice(&long)?;
     store.extend_from_slice(&long)?;
-    store.extend_from_slice(&bytes_of_all(alloc, &[SECOND])?)?;
+    store.extend_from_slice(&bytes_of(alloc, SECOND)?)?;
     store.extend_from_slice(&long)?;
     store.extend_from_slice(&long)?;
-    store.extend_from_slice(&bytes_of_all(alloc, &[FOURTH])?)?;
+    store.extend_from_slice(&bytes_of(alloc, FOURTH)?)?;
     Ok(store)
 }
 

@@ -1,33 +1,41 @@
 //! Runs as rows of tables: what each is given, and how it must end.
 
 use super::desk::{
-    Case, Ending, assert_both, assert_ending, bytes_of, done, refused, with_both, words_alone,
+    Case, Ending, assert_both, assert_ending, bytes_of_packets, done, joined, refused, with_both,
+    words_alone,
 };
 use desk_ports::Call;
+use packet_store::StoreKind;
 use pocket_cmd::Refusal;
 use std::alloc::{AllocError, Global};
 use std::process::Abort;
 use std::test::Fail;
 
-/// Bytes in a table: in hexadecimal, two digits for each, or as text.
+/// How bytes stand in a row: as packets by their names and digits, two for each byte, or as text.
 #[derive(Clone, Copy)]
-pub enum Bytes {
-    Hex(&'static str),
-    Text(&'static str),
+pub enum Form {
+    Packets,
+    Text,
 }
 
-/// A run, what it is given, and how it must end.
-pub struct Row {
+/// What the rows of a table have in common. A row has, with bars between them: what is held as `a`, what is written, the
+/// report, the last of the words, and what is held as `s`. Those at the end may be left out: then they are empty, and
+/// nothing is held.
+#[derive(Clone, Copy)]
+pub struct Table {
+    /// The first of the words.
     pub words: &'static str,
-    /// What is held as `s`.
-    pub side: Option<&'static str>,
-    /// What is held as `a`.
-    pub input: Bytes,
-    pub output: Bytes,
-    pub report: &'static str,
-    /// What it is refused for, after it wrote these.
-    pub refusal: Option<Refusal>,
+    pub input: Form,
+    pub output: Form,
+    /// What each report begins with.
+    pub header: &'static str,
 }
+
+/// A row, and what the run is refused for after it wrote that.
+pub type Refused = (&'static str, Refusal);
+
+/// A row, the byte at which a packet of the store is wrong, and how.
+pub type Faulty = (&'static str, u64, StoreKind);
 
 /// A text of words or of a side input, and the place of what is first wrong in it.
 pub type Wrong = (&'static str, u32);
@@ -35,42 +43,81 @@ pub type Wrong = (&'static str, u32);
 /// No other input than the side input and no output is opened.
 static NOTHING_ELSE: [(Call, u32); 2] = [(Call::OpenIn, 2), (Call::OpenOut, 1)];
 
-fn written_out(alloc: Global, bytes: Bytes) -> Result<Vec<u8>, AllocError> {
-    match bytes {
-        Bytes::Hex(digits) => bytes_of(alloc, digits),
-        Bytes::Text(text) => Vec::from_slice(alloc, text.as_bytes()),
+fn written_out(alloc: Global, form: Form, text: &str) -> Result<Vec<u8>, AllocError> {
+    match form {
+        Form::Packets => bytes_of_packets(alloc, text),
+        Form::Text => Vec::from_slice(alloc, text.as_bytes()),
     }
 }
 
-fn case_of<'a>(row: &Row, input: &'a [u8]) -> Case<'a> {
+fn case_of<'a>(words: &'a str, input: &'a [u8], side: Option<&'a str>) -> Case<'a> {
     Case {
         input: Some(input),
-        side: match row.side {
+        side: match side {
             None => None,
             Some(text) => Some(text.as_bytes()),
         },
-        ..words_alone(row.words)
+        ..words_alone(words)
     }
 }
 
-fn ending_of<'a>(row: &Row, output: &'a [u8]) -> Ending<'a> {
-    let report = row.report.as_bytes();
-    match row.refusal {
-        None => done(output, report),
-        Some(refusal) => refused(refusal, output, report),
+fn ending_of<'a>(refusal: Option<Refusal>, output: &'a [u8], report: &'a str) -> Ending<'a> {
+    match refusal {
+        None => done(output, report.as_bytes()),
+        Some(refusal) => refused(refusal, output, report.as_bytes()),
     }
 }
 
-fn assert_row(rt: &(impl Abort + AllocGlobal), row: &Row) -> Result<(), Fail> {
-    let input = written_out(rt.alloc(), row.input)?;
-    let output = written_out(rt.alloc(), row.output)?;
-    assert_both(rt, case_of(row, &input), &ending_of(row, &output))
+/// The run must end as its row says.
+fn assert_row(
+    rt: &(impl Abort + AllocGlobal),
+    table: &Table,
+    row: &str,
+    refusal: Option<Refusal>,
+) -> Result<(), Fail> {
+    let mut fields = row.split('|');
+    let input = written_out(rt.alloc(), table.input, fields.next().unwrap_or(""))?;
+    let output = written_out(rt.alloc(), table.output, fields.next().unwrap_or(""))?;
+    let report = joined(rt.alloc(), table.header, fields.next().unwrap_or(""))?;
+    let words = joined(rt.alloc(), table.words, fields.next().unwrap_or(""))?;
+    let case = case_of(&words, &input, fields.next());
+    assert!(rt; fields.next().is_none(), "{row}");
+    assert_both(rt, case, &ending_of(refusal, &output, &report))
 }
 
-/// Each run must end as its row says.
-pub fn assert_rows(rt: &(impl Abort + AllocGlobal), rows: &[Row]) -> Result<(), Fail> {
+/// Each run must end well, and as its row says.
+pub fn assert_rows(
+    rt: &(impl Abort + AllocGlobal),
+    table: &Table,
+    rows: &[&str],
+) -> Result<(), Fail> {
     for row in rows {
-        assert_row(rt, row)?;
+        assert_row(rt, table, row, None)?;
+    }
+    Ok(())
+}
+
+/// Each run must be refused as its row says.
+pub fn assert_refusals(
+    rt: &(impl Abort + AllocGlobal),
+    table: &Table,
+    rows: &[Refused],
+) -> Result<(), Fail> {
+    for (row, refusal) in rows {
+        assert_row(rt, table, row, Some(*refusal))?;
+    }
+    Ok(())
+}
+
+/// Each run must end at the packet that is wrong.
+pub fn assert_faulty(
+    rt: &(impl Abort + AllocGlobal),
+    table: &Table,
+    rows: &[Faulty],
+) -> Result<(), Fail> {
+    for (row, byte, kind) in rows {
+        let (byte, kind) = (*byte, *kind);
+        assert_row(rt, table, row, Some(Refusal::BadStore { byte, kind }))?;
     }
     Ok(())
 }

@@ -12,6 +12,34 @@ pub const THIRD: &str = "00 64 C0 02 00 01 44 C0";
 
 pub const FOURTH: &str = "00 64 C0 03 00 02 C0 85 C0";
 
+/// Packets by their names: those of the recording; one with the mask and the whole content of the first, and the count
+/// 16,383; packets that change nothing; an idle packet; a telecommand of another APID; a first segment of another APID,
+/// with a secondary header; and one of the chosen APID with no data that `restore` would take.
+static NAMED: [(&str, &str); 12] = [
+    ("FIRST", FIRST),
+    ("SECOND", SECOND),
+    ("THIRD", THIRD),
+    ("FOURTH", FOURTH),
+    ("LAST_COUNT", "00 64 FF FF 00 03 85 B8 D6 00"),
+    ("COUNT_0", "00 64 C0 00 00 00 82"),
+    ("COUNT_1", "00 64 C0 01 00 00 82"),
+    ("SAME_LAST_COUNT", "00 64 FF FF 00 00 82"),
+    ("IDLE", "07 FF C0 00 00 00 00"),
+    ("TELECOMMAND", "18 05 C0 00 00 01 AA BB"),
+    ("SEGMENT", "08 05 40 07 00 00 CC"),
+    ("SENSELESS", "00 64 C0 00 00 01 FF FF"),
+];
+
+/// The digits of the packet that a word names; or those that it is.
+pub fn digits_of(word: &str) -> &str {
+    for (name, digits) in &NAMED {
+        if *name == word {
+            return digits;
+        }
+    }
+    word
+}
+
 /// Its store.
 pub const STORE: &[u8] = &[
     0x00, 0x64, 0xC0, 0x00, 0x00, 0x03, 0x85, 0xB8, 0xD6, 0x00, //

@@ -1,10 +1,9 @@
 //! Worked stores of several streams, the rules of their side texts, and what stands if a call fails.
 
 use super::desk::{assert_both, done, front, refused, with_both};
-use super::faults::{End, Table, assert_tables};
-use super::rows::Bytes::Hex;
+use super::faults::{End, Faults, assert_faults};
 use super::rows::{
-    Row, Wrong, assert_refused, assert_rows, assert_wrong_sides, assert_wrong_words,
+    Form, Table, Wrong, assert_refused, assert_rows, assert_wrong_sides, assert_wrong_words,
 };
 use desk_ports::Call;
 use packet_store::StoreKind;
@@ -33,102 +32,42 @@ const RESTORED: &[u8] = &[
 const REPORT: &[u8] = b"apid,first,last,cause,value\n101,0,4,lost,0\n101,5,5,unsynced,0\n\
     100,end,2,2,0\n101,end,1,0,0\nshape,1\n";
 
-/// Stores with what is restored of them, and the reports.
-static WHOLE: [Row; 9] = [
-    Row {
-        words: MULTI,
-        side: Some("100,8\n101,8\n"),
-        input: Hex(
-            "00 64 C0 00 00 03 85 B8 D6 00 00 65 C0 05 00 00 82 00 64 C0 01 00 00 82 00 65 00 00 00 00 82",
-        ),
-        output: Hex("00 64 C0 00 00 00 B0 00 64 C0 01 00 00 B0"),
-        report: "apid,first,last,cause,value\n101,0,4,lost,0\n101,5,5,unsynced,0\n\
-            100,end,2,2,0\n101,end,1,0,0\nshape,1\n",
-        refusal: None,
-    },
+/// Stores with what is restored of them, the reports, and the streams.
+const STORES: Table = Table {
+    words: MULTI,
+    input: Form::Packets,
+    output: Form::Packets,
+    header: "apid,first,last,cause,value\n",
+};
+
+static WHOLE: [&str; 9] = [
+    "00 64 C0 00 00 03 85 B8 D6 00 00 65 C0 05 00 00 82 00 64 C0 01 00 00 82 00 65 00 00 00 00 82|\
+        00 64 C0 00 00 00 B0 00 64 C0 01 00 00 B0|\
+        101,0,4,lost,0\n101,5,5,unsynced,0\n100,end,2,2,0\n101,end,1,0,0\nshape,1\n||100,8\n101,8\n",
     // No stream.
-    Row {
-        words: MULTI,
-        side: Some(""),
-        input: Hex("00 64 C0 00 00 03 85 B8 D6 00 00 65 00 00 00 00 82"),
-        output: Hex(""),
-        report: "apid,first,last,cause,value\nshape,0\n",
-        refusal: None,
-    },
-    Row {
-        words: MULTI,
-        side: Some("101,8\n100,8\n"),
-        input: Hex(""),
-        output: Hex(""),
-        report: "apid,first,last,cause,value\n101,end,0,0,0\n100,end,0,0,0\nshape,0\n",
-        refusal: None,
-    },
+    "00 64 C0 00 00 03 85 B8 D6 00 00 65 00 00 00 00 82||shape,0\n||",
+    "||101,end,0,0,0\n100,end,0,0,0\nshape,0\n||101,8\n100,8\n",
     // Other APIDs are passed over, in whatever shape their packets are.
-    Row {
-        words: MULTI,
-        side: Some("\n100,8"),
-        input: Hex(
-            "00 65 C0 00 00 03 85 B8 D6 00 07 FF C0 00 00 00 00 18 66 40 05 00 00 FF \
-            00 64 C0 00 00 03 85 B8 D6 00",
-        ),
-        output: Hex("00 64 C0 00 00 00 B0"),
-        report: "apid,first,last,cause,value\n100,end,1,1,0\nshape,0\n",
-        refusal: None,
-    },
+    "00 65 C0 00 00 03 85 B8 D6 00 07 FF C0 00 00 00 00 18 66 40 05 00 00 FF 00 64 C0 00 00 03 85 B8 D6 00|\
+        00 64 C0 00 00 00 B0|100,end,1,1,0\nshape,0\n||\n100,8",
     // A telecommand, a packet with a secondary header and a segment, none of which is an arrival.
-    Row {
-        words: MULTI,
-        side: Some("100,8"),
-        input: Hex(
-            "00 64 C0 00 00 03 85 B8 D6 00 10 64 C0 01 00 00 82 08 64 C0 01 00 00 82 \
-            00 64 40 01 00 00 82 00 64 C0 01 00 00 82",
-        ),
-        output: Hex("00 64 C0 00 00 00 B0 00 64 C0 01 00 00 B0"),
-        report: "apid,first,last,cause,value\n100,end,2,2,0\nshape,3\n",
-        refusal: None,
-    },
+    "00 64 C0 00 00 03 85 B8 D6 00 10 64 C0 01 00 00 82 08 64 C0 01 00 00 82 00 64 40 01 00 00 82 00 64 C0 01 00 \
+        00 82|00 64 C0 00 00 00 B0 00 64 C0 01 00 00 B0|100,end,2,2,0\nshape,3\n||100,8",
     // Each stream has its own counts, its own mask and its own content.
-    Row {
-        words: MULTI,
-        side: Some("0,8\n2046,8\n"),
-        input: Hex(
-            "00 00 C0 00 00 03 85 B8 D6 00 07 FE C0 00 00 03 85 5C 6B 00 \
-            00 00 C0 02 00 03 85 B8 D6 00 07 FE C0 01 00 03 85 5C 64 F0 00 00 C0 02 00 03 85 B8 D6 00",
-        ),
-        output: Hex(
-            "00 00 C0 00 00 00 B0 07 FE C0 00 00 00 B0 00 00 C0 02 00 00 B0 07 FE C0 01 00 00 4F",
-        ),
-        report: "apid,first,last,cause,value\n0,1,1,lost,0\n0,end,3,2,1\n2046,end,2,2,0\nshape,0\n",
-        refusal: None,
-    },
+    "00 00 C0 00 00 03 85 B8 D6 00 07 FE C0 00 00 03 85 5C 6B 00 00 00 C0 02 00 03 85 B8 D6 00 07 FE C0 01 00 03 \
+        85 5C 64 F0 00 00 C0 02 00 03 85 B8 D6 00|\
+        00 00 C0 00 00 00 B0 07 FE C0 00 00 00 B0 00 00 C0 02 00 00 B0 07 FE C0 01 00 00 4F|\
+        0,1,1,lost,0\n0,end,3,2,1\n2046,end,2,2,0\nshape,0\n||0,8\n2046,8\n",
     // Vectors of two lengths: each packet is read by the length of its own stream.
-    Row {
-        words: MULTI,
-        side: Some("10,8\n100,13\n"),
-        input: Hex("00 64 C0 00 00 03 81 B9 62 47 00 0A C0 00 00 03 85 B8 D6 00"),
-        output: Hex("00 64 C0 00 00 01 12 38 00 0A C0 00 00 00 B0"),
-        report: "apid,first,last,cause,value\n10,end,1,1,0\n100,end,1,1,0\nshape,0\n",
-        refusal: None,
-    },
+    "00 64 C0 00 00 03 81 B9 62 47 00 0A C0 00 00 03 85 B8 D6 00|00 64 C0 00 00 01 12 38 00 0A C0 00 00 00 B0|\
+        10,end,1,1,0\n100,end,1,1,0\nshape,0\n||10,8\n100,13\n",
     // An APID that begins with another one.
-    Row {
-        words: MULTI,
-        side: Some("1,8\n10,8\n"),
-        input: Hex("00 01 C0 01 00 00 82 00 0A C0 02 00 00 82"),
-        output: Hex(""),
-        report: "apid,first,last,cause,value\n1,0,0,lost,0\n1,1,1,unsynced,0\n10,0,1,lost,0\n10,2,2,unsynced,0\n\
-            1,end,1,0,0\n10,end,1,0,0\nshape,0\n",
-        refusal: None,
-    },
+    "00 01 C0 01 00 00 82 00 0A C0 02 00 00 82||\
+        1,0,0,lost,0\n1,1,1,unsynced,0\n10,0,1,lost,0\n10,2,2,unsynced,0\n1,end,1,0,0\n10,end,1,0,0\nshape,0\n||\
+        1,8\n10,8\n",
     // The last count before the first one comes again: the number is written by the period.
-    Row {
-        words: MULTI,
-        side: Some("100,8"),
-        input: Hex("00 64 FF FF 00 03 85 B8 D6 00 00 64 C0 00 00 00 82"),
-        output: Hex("00 64 FF FF 00 00 B0 00 64 C0 00 00 00 B0"),
-        report: "apid,first,last,cause,value\n100,0,16382,lost,0\n100,end,2,2,0\nshape,0\n",
-        refusal: None,
-    },
+    "00 64 FF FF 00 03 85 B8 D6 00 00 64 C0 00 00 00 82|00 64 FF FF 00 00 B0 00 64 C0 00 00 00 B0|\
+        100,0,16382,lost,0\n100,end,2,2,0\nshape,0\n||100,8",
 ];
 
 /// How many bytes of the store there are, the byte of the packet that is cut, and how many bytes of the output and of
@@ -181,67 +120,56 @@ static WRONG_WORDS: [Wrong; 13] = [
 
 /// The calls that fail. The header has 5 and 23 bytes, a packet 7, an APID with its comma 4, the first two rows 11 and 15,
 /// the last ones 10 each, and the line of the shapes 8.
-static FAILING: [Table; 2] = [
-    Table {
-        words: MULTI,
-        input: Some(STORE),
-        side: Some(TWO_STREAMS),
-        one_byte: false,
-        output: RESTORED,
-        report: REPORT,
-        rows: &[
-            (&[(Call::OpenIn, 1), (Call::OpenOut, 1)], End::Unread(0, 0)),
-            (&[(Call::OpenIn, 2), (Call::OpenOut, 1)], End::Unread(0, 0)),
-            (&[(Call::OpenIn, 3)], End::Done),
-            (&[(Call::OpenOut, 1)], End::Unwritten(0, 0)),
-            (&[(Call::OpenOut, 2)], End::Unwritten(0, 0)),
-            (&[(Call::OpenOut, 3)], End::Done),
-            (&[(Call::Read, 1), (Call::OpenOut, 1)], End::Unread(0, 0)),
-            (&[(Call::Read, 2), (Call::OpenOut, 1)], End::Unread(0, 0)),
-            (&[(Call::Read, 3)], End::Unread(0, 28)),
-            (&[(Call::Read, 4)], End::Unread(14, 62)),
-            (&[(Call::Read, 5)], End::Done),
-            (&[(Call::Write, 1)], End::Unwritten(0, 0)),
-            (&[(Call::Write, 2)], End::Unwritten(0, 5)),
-            (&[(Call::Write, 3)], End::Unwritten(0, 28)),
-            (&[(Call::Write, 4)], End::Unwritten(7, 28)),
-            (&[(Call::Write, 5)], End::Unwritten(7, 32)),
-            (&[(Call::Write, 6)], End::Unwritten(7, 43)),
-            (&[(Call::Write, 7)], End::Unwritten(7, 47)),
-            (&[(Call::Write, 8)], End::Unwritten(7, 62)),
-            (&[(Call::Write, 9)], End::Unwritten(14, 62)),
-            (&[(Call::Write, 10)], End::Unwritten(14, 66)),
-            (&[(Call::Write, 11)], End::Unwritten(14, 76)),
-            (&[(Call::Write, 12)], End::Unwritten(14, 80)),
-            (&[(Call::Write, 13)], End::Unwritten(14, 90)),
-            (&[(Call::Write, 14)], End::Done),
-            (&[(Call::Finish, 1)], End::Unwritten(14, 98)),
-            (&[(Call::Finish, 2)], End::HalfKept),
-            (&[(Call::Finish, 3)], End::Done),
-        ],
-    },
-    Table {
-        words: MULTI,
-        input: Some(STORE),
-        side: Some(TWO_STREAMS),
-        one_byte: true,
-        output: RESTORED,
-        report: REPORT,
-        rows: &[
-            (&[(Call::Write, 6)], End::Unwritten(0, 5)),
-            (&[(Call::Write, 28)], End::Unwritten(0, 27)),
-            (&[(Call::Write, 35)], End::Unwritten(6, 28)),
-            (&[(Call::Write, 40)], End::Unwritten(7, 32)),
-            (&[(Call::Write, 76)], End::Unwritten(13, 62)),
-            (&[(Call::Write, 112)], End::Unwritten(14, 97)),
-            (&[(Call::Write, 113)], End::Done),
-        ],
-    },
-];
+static FAILING: [Faults; 1] = [Faults {
+    words: MULTI,
+    input: Some(STORE),
+    side: Some(TWO_STREAMS),
+    output: RESTORED,
+    report: REPORT,
+    whole: &[
+        (&[(Call::OpenIn, 1), (Call::OpenOut, 1)], End::Unread(0, 0)),
+        (&[(Call::OpenIn, 2), (Call::OpenOut, 1)], End::Unread(0, 0)),
+        (&[(Call::OpenIn, 3)], End::Done),
+        (&[(Call::OpenOut, 1)], End::Unwritten(0, 0)),
+        (&[(Call::OpenOut, 2)], End::Unwritten(0, 0)),
+        (&[(Call::OpenOut, 3)], End::Done),
+        (&[(Call::Read, 1), (Call::OpenOut, 1)], End::Unread(0, 0)),
+        (&[(Call::Read, 2), (Call::OpenOut, 1)], End::Unread(0, 0)),
+        (&[(Call::Read, 3)], End::Unread(0, 28)),
+        (&[(Call::Read, 4)], End::Unread(14, 62)),
+        (&[(Call::Read, 5)], End::Done),
+        (&[(Call::Write, 1)], End::Unwritten(0, 0)),
+        (&[(Call::Write, 2)], End::Unwritten(0, 5)),
+        (&[(Call::Write, 3)], End::Unwritten(0, 28)),
+        (&[(Call::Write, 4)], End::Unwritten(7, 28)),
+        (&[(Call::Write, 5)], End::Unwritten(7, 32)),
+        (&[(Call::Write, 6)], End::Unwritten(7, 43)),
+        (&[(Call::Write, 7)], End::Unwritten(7, 47)),
+        (&[(Call::Write, 8)], End::Unwritten(7, 62)),
+        (&[(Call::Write, 9)], End::Unwritten(14, 62)),
+        (&[(Call::Write, 10)], End::Unwritten(14, 66)),
+        (&[(Call::Write, 11)], End::Unwritten(14, 76)),
+        (&[(Call::Write, 12)], End::Unwritten(14, 80)),
+        (&[(Call::Write, 13)], End::Unwritten(14, 90)),
+        (&[(Call::Write, 14)], End::Done),
+        (&[(Call::Finish, 1)], End::Unwritten(14, 98)),
+        (&[(Call::Finish, 2)], End::HalfKept),
+        (&[(Call::Finish, 3)], End::Done),
+    ],
+    single: &[
+        (&[(Call::Write, 6)], End::Unwritten(0, 5)),
+        (&[(Call::Write, 28)], End::Unwritten(0, 27)),
+        (&[(Call::Write, 35)], End::Unwritten(6, 28)),
+        (&[(Call::Write, 40)], End::Unwritten(7, 32)),
+        (&[(Call::Write, 76)], End::Unwritten(13, 62)),
+        (&[(Call::Write, 112)], End::Unwritten(14, 97)),
+        (&[(Call::Write, 113)], End::Done),
+    ],
+}];
 
 #[test]
 fn stores_of_streams(rt: HostRuntime) -> Result<(), Fail> {
-    assert_rows(&rt, &WHOLE)?;
+    assert_rows(&rt, &STORES, &WHOLE)?;
     for (length, byte, output, report) in CUTS {
         let store = front(STORE, length);
         let refusal = Refusal::BadStore {
@@ -256,7 +184,7 @@ fn stores_of_streams(rt: HostRuntime) -> Result<(), Fail> {
 
 #[test]
 fn streams_at_each_fault(rt: HostRuntime) -> Result<(), Fail> {
-    assert_tables(&rt, &FAILING)
+    assert_faults(&rt, &FAILING)
 }
 
 #[test]

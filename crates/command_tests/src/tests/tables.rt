@@ -1,21 +1,17 @@
 //! Tables of worked recordings, the rules of their side texts, and what stands if a call fails.
 
 use super::desk::{answer, assert_both, done, hold, new_desk, with_both};
-use super::faults::{End, Table, assert_tables};
-use super::rows::Bytes::{Hex, Text};
-use super::rows::{Row, Wrong, assert_rows, assert_wrong_sides, assert_wrong_words};
+use super::faults::{End, Faults, assert_faults};
+use super::rows::{
+    Form, Refused, Table, Wrong, assert_refusals, assert_rows, assert_wrong_sides,
+    assert_wrong_words,
+};
 use desk_ports::{Call, MemDesk};
 use pocket_cmd::{Refusal, Status};
 use std::alloc::{AllocError, Global};
 use std::test::Fail;
 
 const SIXTEEN_BITS: &str = "table in=a out=b report=c fields=s bits=16";
-
-const THIRTEEN_BITS: &str = "table bits=13 fields=s report=c out=b in=a";
-
-const WIDE: &str = "table in=a out=b report=c fields=s bits=64";
-
-const LONG: &str = "table in=a out=b report=c fields=s bits=136";
 
 const FIELDS: &[u8] = b"field,0,8,u,mode\nfield,8,8,s,temp\nlimit,temp,-10,40\n";
 
@@ -25,130 +21,58 @@ const TABLE: &[u8] = b"t,mode,temp\n0,1,-16\n1,2,40\n";
 
 const REPORT: &[u8] = b"t,name,value,low,high\n0,temp,-16,-10,40\nend,2,1\n";
 
-/// Recordings with their tables and reports.
-static WHOLE: [Row; 9] = [
-    Row {
-        words: SIXTEEN_BITS,
-        side: Some("field,0,8,u,mode\nlimit,mode,1,2\n"),
-        input: Hex(""),
-        output: Text("t,mode\n"),
-        report: "t,name,value,low,high\nend,0,0\n",
-        refusal: None,
-    },
+/// Recordings with their tables and reports, the number of bits, and the fields.
+const RUNS: Table = Table {
+    words: "table in=a out=b report=c fields=s bits=",
+    input: Form::Packets,
+    output: Form::Text,
+    header: "t,name,value,low,high\n",
+};
+
+static WHOLE: [&str; 8] = [
+    "|t,mode\n|end,0,0\n|16|field,0,8,u,mode\nlimit,mode,1,2\n",
     // No field.
-    Row {
-        words: SIXTEEN_BITS,
-        side: Some("\n"),
-        input: Hex("01 F0 02 28"),
-        output: Text("t\n0\n1\n"),
-        report: "t,name,value,low,high\nend,2,0\n",
-        refusal: None,
-    },
+    "01 F0 02 28|t\n0\n1\n|end,2,0\n|16|\n",
     // A value at its limit is within it, and one beside it is not.
-    Row {
-        words: SIXTEEN_BITS,
-        side: Some("field,0,16,u,a\nlimit,a,1,3"),
-        input: Hex("00 00 00 01 00 03 00 04"),
-        output: Text("t,a\n0,0\n1,1\n2,3\n3,4\n"),
-        report: "t,name,value,low,high\n0,a,0,1,3\n3,a,4,1,3\nend,4,2\n",
-        refusal: None,
-    },
+    "00 00 00 01 00 03 00 04|t,a\n0,0\n1,1\n2,3\n3,4\n|0,a,0,1,3\n3,a,4,1,3\nend,4,2\n|16|\
+        field,0,16,u,a\nlimit,a,1,3",
     // By packet and then by field, whatever the order of the limits is.
-    Row {
-        words: SIXTEEN_BITS,
-        side: Some(
-            "field,0,1,u,a\nfield,1,1,s,b\nfield,0,2,s,c\nlimit,c,0,1\nlimit,b,0,0\nlimit,a,1,1\n",
-        ),
-        input: Hex("40 00 80 00"),
-        output: Text("t,a,b,c\n0,0,-1,1\n1,1,0,-2\n"),
-        report: "t,name,value,low,high\n0,a,0,1,1\n0,b,-1,0,0\n1,c,-2,0,1\nend,2,3\n",
-        refusal: None,
-    },
+    "40 00 80 00|t,a,b,c\n0,0,-1,1\n1,1,0,-2\n|0,a,0,1,1\n0,b,-1,0,0\n1,c,-2,0,1\nend,2,3\n|16|\
+        field,0,1,u,a\nfield,1,1,s,b\nfield,0,2,s,c\nlimit,c,0,1\nlimit,b,0,0\nlimit,a,1,1\n",
     // The least and the greatest numbers, within the widest limits and beside narrower ones.
-    Row {
-        words: WIDE,
-        side: Some(
-            "field,0,64,u,U\nfield,0,64,s,S\nlimit,U,0,18446744073709551615\n\
-            limit,S,-9223372036854775808,9223372036854775807\n",
-        ),
-        input: Hex("FF FF FF FF FF FF FF FF 80 00 00 00 00 00 00 00 7F FF FF FF FF FF FF FF"),
-        output: Text(
-            "t,U,S\n0,18446744073709551615,-1\n1,9223372036854775808,-9223372036854775808\n\
-            2,9223372036854775807,9223372036854775807\n",
-        ),
-        report: "t,name,value,low,high\nend,3,0\n",
-        refusal: None,
-    },
-    Row {
-        words: WIDE,
-        side: Some(
-            "field,0,64,u,U\nfield,0,64,s,S\nlimit,U,1,18446744073709551614\n\
-            limit,S,-9223372036854775807,9223372036854775806\n",
-        ),
-        input: Hex("FF FF FF FF FF FF FF FF 80 00 00 00 00 00 00 00 7F FF FF FF FF FF FF FF"),
-        output: Text(
-            "t,U,S\n0,18446744073709551615,-1\n1,9223372036854775808,-9223372036854775808\n\
-            2,9223372036854775807,9223372036854775807\n",
-        ),
-        report: "t,name,value,low,high\n0,U,18446744073709551615,1,18446744073709551614\n\
-            1,S,-9223372036854775808,-9223372036854775807,9223372036854775806\n\
-            2,S,9223372036854775807,-9223372036854775807,9223372036854775806\nend,3,3\n",
-        refusal: None,
-    },
+    "FF FF FF FF FF FF FF FF 80 00 00 00 00 00 00 00 7F FF FF FF FF FF FF FF|t,U,S\n0,18446744073709551615,-1\n\
+        1,9223372036854775808,-9223372036854775808\n2,9223372036854775807,9223372036854775807\n|end,3,0\n|64|\
+        field,0,64,u,U\nfield,0,64,s,S\nlimit,U,0,18446744073709551615\n\
+        limit,S,-9223372036854775808,9223372036854775807\n",
+    "FF FF FF FF FF FF FF FF 80 00 00 00 00 00 00 00 7F FF FF FF FF FF FF FF|t,U,S\n0,18446744073709551615,-1\n\
+        1,9223372036854775808,-9223372036854775808\n2,9223372036854775807,9223372036854775807\n|\
+        0,U,18446744073709551615,1,18446744073709551614\n\
+        1,S,-9223372036854775808,-9223372036854775807,9223372036854775806\n\
+        2,S,9223372036854775807,-9223372036854775807,9223372036854775806\nend,3,3\n|64|field,0,64,u,U\n\
+        field,0,64,s,S\nlimit,U,1,18446744073709551614\nlimit,S,-9223372036854775807,9223372036854775806\n",
     // Fields over the places 64 and 128, and one that ends at the last place.
-    Row {
-        words: LONG,
-        side: Some("field,60,8,u,a\nfield,60,64,s,b\nfield,127,2,s,c\nfield,72,64,u,d\n"),
-        input: Hex("00 00 00 00 00 00 00 0A 50 00 00 00 00 00 00 01 80"),
-        output: Text("t,a,b,c,d\n0,165,-6557241057451442176,-1,384\n"),
-        report: "t,name,value,low,high\nend,1,0\n",
-        refusal: None,
-    },
-    Row {
-        words: THIRTEEN_BITS,
-        side: Some("field,0,13,u,all\nfield,12,1,s,last\n"),
-        input: Hex("12 38 12 38"),
-        output: Text("t,all,last\n0,583,-1\n1,583,-1\n"),
-        report: "t,name,value,low,high\nend,2,0\n",
-        refusal: None,
-    },
+    "00 00 00 00 00 00 00 0A 50 00 00 00 00 00 00 01 80|t,a,b,c,d\n0,165,-6557241057451442176,-1,384\n|end,1,0\n|\
+        136|field,60,8,u,a\nfield,60,64,s,b\nfield,127,2,s,c\nfield,72,64,u,d\n",
     // Quotes, and lines with no record.
-    Row {
-        words: SIXTEEN_BITS,
-        side: Some("\u{feff}\n\n\"field\",15,\"1\",s,Z_9\r\n\nlimit,Z_9,0,\"0\""),
-        input: Hex("00 01"),
-        output: Text("t,Z_9\n0,-1\n"),
-        report: "t,name,value,low,high\n0,Z_9,-1,0,0\nend,1,1\n",
-        refusal: None,
-    },
+    "00 01|t,Z_9\n0,-1\n|0,Z_9,-1,0,0\nend,1,1\n|16|\u{feff}\n\n\"field\",15,\"1\",s,Z_9\r\n\nlimit,Z_9,0,\"0\"",
+];
+
+/// One of packets of 13 bits.
+static OF_THIRTEEN_BITS: [&str; 1] = [
+    "12 38 12 38|t,all,last\n0,583,-1\n1,583,-1\n|end,2,0\n||field,0,13,u,all\nfield,12,1,s,last\n",
 ];
 
 /// Recordings of packets of 13 bits, what is wrong with each, and the lines that stand before it.
-static FAULTY: [Row; 3] = [
-    Row {
-        words: THIRTEEN_BITS,
-        side: Some("field,0,13,u,all"),
-        input: Hex("12"),
-        output: Text("t,all\n"),
-        report: "t,name,value,low,high\n",
-        refusal: Some(Refusal::CutRecord { t: 0 }),
-    },
-    Row {
-        words: THIRTEEN_BITS,
-        side: Some("field,0,13,u,all"),
-        input: Hex("12 38 12"),
-        output: Text("t,all\n0,583\n"),
-        report: "t,name,value,low,high\n",
-        refusal: Some(Refusal::CutRecord { t: 1 }),
-    },
-    Row {
-        words: THIRTEEN_BITS,
-        side: Some("field,0,13,u,all"),
-        input: Hex("12 38 12 34 12 38"),
-        output: Text("t,all\n0,583\n"),
-        report: "t,name,value,low,high\n",
-        refusal: Some(Refusal::SpareBit { t: 1 }),
-    },
+static FAULTY: [Refused; 3] = [
+    ("12|t,all\n|||field,0,13,u,all", Refusal::CutRecord { t: 0 }),
+    (
+        "12 38 12|t,all\n0,583\n|||field,0,13,u,all",
+        Refusal::CutRecord { t: 1 },
+    ),
+    (
+        "12 38 12 34 12 38|t,all\n0,583\n|||field,0,13,u,all",
+        Refusal::SpareBit { t: 1 },
+    ),
 ];
 
 /// Side texts for packets of 16 bits that are right.
@@ -230,68 +154,59 @@ static WRONG_WORDS: [Wrong; 17] = [
 
 /// The calls that fail: the two lines that come first have 12 and 22 bytes, packet 0 a line of 8 and a row of 18, packet 1
 /// a line of 7, and the last row has 8.
-static FAILING: [Table; 2] = [
-    Table {
-        words: SIXTEEN_BITS,
-        input: Some(RECORDING),
-        side: Some(FIELDS),
-        one_byte: false,
-        output: TABLE,
-        report: REPORT,
-        rows: &[
-            (&[(Call::OpenIn, 1), (Call::OpenOut, 1)], End::Unread(0, 0)),
-            (&[(Call::OpenIn, 2), (Call::OpenOut, 1)], End::Unread(0, 0)),
-            (&[(Call::OpenIn, 3)], End::Done),
-            (&[(Call::OpenOut, 1)], End::Unwritten(0, 0)),
-            (&[(Call::OpenOut, 2)], End::Unwritten(0, 0)),
-            (&[(Call::OpenOut, 3)], End::Done),
-            (&[(Call::Read, 1), (Call::OpenOut, 1)], End::Unread(0, 0)),
-            (&[(Call::Read, 2), (Call::OpenOut, 1)], End::Unread(0, 0)),
-            (&[(Call::Read, 3)], End::Unread(12, 22)),
-            (&[(Call::Read, 4)], End::Unread(27, 40)),
-            (&[(Call::Read, 5)], End::Done),
-            (&[(Call::Write, 1)], End::Unwritten(0, 0)),
-            (&[(Call::Write, 2)], End::Unwritten(12, 0)),
-            (&[(Call::Write, 3)], End::Unwritten(12, 22)),
-            (&[(Call::Write, 4)], End::Unwritten(20, 22)),
-            (&[(Call::Write, 5)], End::Unwritten(20, 40)),
-            (&[(Call::Write, 6)], End::Unwritten(27, 40)),
-            (&[(Call::Write, 7)], End::Done),
-            (&[(Call::Finish, 1)], End::Unwritten(27, 48)),
-            (&[(Call::Finish, 2)], End::HalfKept),
-            (&[(Call::Finish, 3)], End::Done),
-        ],
-    },
-    Table {
-        words: SIXTEEN_BITS,
-        input: Some(RECORDING),
-        side: Some(FIELDS),
-        one_byte: true,
-        output: TABLE,
-        report: REPORT,
-        rows: &[
-            (&[(Call::Write, 12)], End::Unwritten(11, 0)),
-            (&[(Call::Write, 34)], End::Unwritten(12, 21)),
-            (&[(Call::Write, 42)], End::Unwritten(19, 22)),
-            (&[(Call::Write, 60)], End::Unwritten(20, 39)),
-            (&[(Call::Write, 67)], End::Unwritten(26, 40)),
-            (&[(Call::Write, 75)], End::Unwritten(27, 47)),
-            (&[(Call::Write, 76)], End::Done),
-        ],
-    },
-];
+static FAILING: [Faults; 1] = [Faults {
+    words: SIXTEEN_BITS,
+    input: Some(RECORDING),
+    side: Some(FIELDS),
+    output: TABLE,
+    report: REPORT,
+    whole: &[
+        (&[(Call::OpenIn, 1), (Call::OpenOut, 1)], End::Unread(0, 0)),
+        (&[(Call::OpenIn, 2), (Call::OpenOut, 1)], End::Unread(0, 0)),
+        (&[(Call::OpenIn, 3)], End::Done),
+        (&[(Call::OpenOut, 1)], End::Unwritten(0, 0)),
+        (&[(Call::OpenOut, 2)], End::Unwritten(0, 0)),
+        (&[(Call::OpenOut, 3)], End::Done),
+        (&[(Call::Read, 1), (Call::OpenOut, 1)], End::Unread(0, 0)),
+        (&[(Call::Read, 2), (Call::OpenOut, 1)], End::Unread(0, 0)),
+        (&[(Call::Read, 3)], End::Unread(12, 22)),
+        (&[(Call::Read, 4)], End::Unread(27, 40)),
+        (&[(Call::Read, 5)], End::Done),
+        (&[(Call::Write, 1)], End::Unwritten(0, 0)),
+        (&[(Call::Write, 2)], End::Unwritten(12, 0)),
+        (&[(Call::Write, 3)], End::Unwritten(12, 22)),
+        (&[(Call::Write, 4)], End::Unwritten(20, 22)),
+        (&[(Call::Write, 5)], End::Unwritten(20, 40)),
+        (&[(Call::Write, 6)], End::Unwritten(27, 40)),
+        (&[(Call::Write, 7)], End::Done),
+        (&[(Call::Finish, 1)], End::Unwritten(27, 48)),
+        (&[(Call::Finish, 2)], End::HalfKept),
+        (&[(Call::Finish, 3)], End::Done),
+    ],
+    single: &[
+        (&[(Call::Write, 12)], End::Unwritten(11, 0)),
+        (&[(Call::Write, 34)], End::Unwritten(12, 21)),
+        (&[(Call::Write, 42)], End::Unwritten(19, 22)),
+        (&[(Call::Write, 60)], End::Unwritten(20, 39)),
+        (&[(Call::Write, 67)], End::Unwritten(26, 40)),
+        (&[(Call::Write, 75)], End::Unwritten(27, 47)),
+        (&[(Call::Write, 76)], End::Done),
+    ],
+}];
 
 #[test]
 fn tables(rt: HostRuntime) -> Result<(), Fail> {
     let worked = with_both(SIXTEEN_BITS, RECORDING, FIELDS);
     assert_both(&rt, worked, &done(TABLE, REPORT))?;
-    assert_rows(&rt, &WHOLE)?;
-    assert_rows(&rt, &FAULTY)
+    assert_rows(&rt, &RUNS, &WHOLE)?;
+    let words = "table bits=13 fields=s report=c out=b in=a";
+    assert_rows(&rt, &Table { words, ..RUNS }, &OF_THIRTEEN_BITS)?;
+    assert_refusals(&rt, &Table { words, ..RUNS }, &FAULTY)
 }
 
 #[test]
 fn tables_at_each_fault(rt: HostRuntime) -> Result<(), Fail> {
-    assert_tables(&rt, &FAILING)
+    assert_faults(&rt, &FAILING)
 }
 
 /// A text with so many fields of one bit.

@@ -10,12 +10,8 @@ use std::test::Fail;
 /// them in this order shows at the end.
 struct Run<'a> {
     packets: &'a [(u64, &'a [u8], Answer)],
-    last: Option<u64>,
-    last_mask: Option<u64>,
-    mask: u8,
-    content: u8,
-    recent: u8,
-    level: u8,
+    latest: (Option<u64>, Option<u64>, u8),
+    vectors: [u8; 3],
 }
 
 /// How the data must be answered.
@@ -109,8 +105,8 @@ fn vectors(decoder: &Decoder) -> [u8; 3] {
 
 fn passes(decoder: &mut Decoder, run: &Run<'_>) -> bool {
     all_answer(decoder, run.packets)
-        && latest(decoder) == (run.last, run.last_mask, run.level)
-        && vectors(decoder) == [run.mask, run.content, run.recent]
+        && latest(decoder) == run.latest
+        && vectors(decoder) == run.vectors
 }
 
 static RUNS: [Run<'static>; 11] = [
@@ -123,12 +119,8 @@ static RUNS: [Run<'static>; 11] = [
             (2, &[0x44, 0xC0], Fronts),
             (3, &[0xC0, 0x85, 0xC0], Fronts),
         ],
-        last: Some(3),
-        last_mask: Some(3),
-        mask: 0x03,
-        content: 0xB3,
-        recent: 0x02,
-        level: 1,
+        latest: (Some(3), Some(3), 1),
+        vectors: [0x03, 0xB3, 0x02],
     },
     // Every front of each packet of a recording `00 01 01 01 01 01` with a new mask at 3 and 5. In the last one a place
     // became predictable and is extracted again: its padding with a one, and a byte after it, are wrong.
@@ -143,12 +135,8 @@ static RUNS: [Run<'static>; 11] = [
             (5, &[0x47, 0xF0, 0x00], Wrong(16)),
             (5, &[0x47, 0xF0], Fronts),
         ],
-        last: Some(5),
-        last_mask: Some(5),
-        mask: 0x00,
-        content: 0x01,
-        recent: 0x01,
-        level: 3,
+        latest: (Some(5), Some(5), 3),
+        vectors: [0x00, 0x01, 0x01],
     },
     // A recording `00 01 03 03 03 03 03`, which begins with the same packets; 2 and 3 are lost. Every front of two that
     // can't be understood, and of one that stands alone.
@@ -164,12 +152,8 @@ static RUNS: [Run<'static>; 11] = [
             (5, &[0x8B, 0x80], Gap(2, false)),
             (6, &[0x8D, 0x60, 0x5C, 0x60, 0x30], Fronts),
         ],
-        last: Some(6),
-        last_mask: Some(6),
-        mask: 0x03,
-        content: 0x03,
-        recent: 0x00,
-        level: 3,
+        latest: (Some(6), Some(6), 3),
+        vectors: [0x03, 0x03, 0x00],
     },
     // A count above eight, a count of 34 or more, a ninth place, a ninth place; directions without a place; neither
     // a mask nor a content; another mask; another content; and the packet.
@@ -187,12 +171,8 @@ static RUNS: [Run<'static>; 11] = [
             (1, &[0x42, 0x4B, 0x8C, 0x62], Wrong(23)),
             (1, &[0x42, 0x4B, 0x8D, 0x62], Written),
         ],
-        last: Some(1),
-        last_mask: Some(1),
-        mask: 0x01,
-        content: 0xB1,
-        recent: 0x01,
-        level: 1,
+        latest: (Some(1), Some(1), 1),
+        vectors: [0x01, 0xB1, 0x01],
     },
     // A packet out of reach, and one whose level reaches back over it.
     Run {
@@ -201,12 +181,8 @@ static RUNS: [Run<'static>; 11] = [
             (2, &[0x82], Gap(0, false)),
             (3, &[0x8A], Written),
         ],
-        last: Some(3),
-        last_mask: Some(3),
-        mask: 0x00,
-        content: 0xB0,
-        recent: 0x00,
-        level: 2,
+        latest: (Some(3), Some(3), 2),
+        vectors: [0x00, 0xB0, 0x00],
     },
     // With nothing known: a content of nine places, and a packet that doesn't stand alone.
     Run {
@@ -214,12 +190,8 @@ static RUNS: [Run<'static>; 11] = [
             (0, &[0x85, 0xB8, 0xF6, 0x00], Wrong(18)),
             (5, &[0x82], Unsynced(false)),
         ],
-        last: None,
-        last_mask: None,
-        mask: 0x00,
-        content: 0x00,
-        recent: 0x00,
-        level: 0,
+        latest: (None, None, 0),
+        vectors: [0x00, 0x00, 0x00],
     },
     // A recording `00 01 03 03 02 02`, of which 1 and 2 are lost. Whole content without a mask; then a mask under which the
     // content is known.
@@ -231,12 +203,8 @@ static RUNS: [Run<'static>; 11] = [
             (4, &[0x85, 0x60, 0x44], Written),
             (5, &[0x8A, 0x80], Written),
         ],
-        last: Some(5),
-        last_mask: Some(5),
-        mask: 0x03,
-        content: 0x02,
-        recent: 0x00,
-        level: 2,
+        latest: (Some(5), Some(5), 2),
+        vectors: [0x03, 0x02, 0x00],
     },
     // The content of 3 leaves the mask of 0.
     Run {
@@ -244,12 +212,8 @@ static RUNS: [Run<'static>; 11] = [
             (0, &[0x81, 0xB8, 0xC0, 0x00], Written),
             (3, &[0x80, 0xE3, 0x01, 0x80], Written),
         ],
-        last: Some(3),
-        last_mask: Some(0),
-        mask: 0x00,
-        content: 0x03,
-        recent: 0x00,
-        level: 0,
+        latest: (Some(3), Some(0), 0),
+        vectors: [0x00, 0x03, 0x00],
     },
     // The same recording. A mask whose extracted bits tell no content; then whole content; then extracted bits under both.
     Run {
@@ -264,12 +228,8 @@ static RUNS: [Run<'static>; 11] = [
             (4, &[0x84, 0xE3, 0x01, 0x00], Written),
             (5, &[0x8A, 0x80], Written),
         ],
-        last: Some(5),
-        last_mask: Some(5),
-        mask: 0x03,
-        content: 0x02,
-        recent: 0x00,
-        level: 2,
+        latest: (Some(5), Some(5), 2),
+        vectors: [0x03, 0x02, 0x00],
     },
     // The mask of 3 leaves the content of 0, with its recent changes and its level.
     Run {
@@ -277,12 +237,8 @@ static RUNS: [Run<'static>; 11] = [
             (0, &[0x81, 0xB8, 0xC0, 0x00], Written),
             (3, &[0x81, 0x60, 0x4C], Gap(0, true)),
         ],
-        last: Some(0),
-        last_mask: Some(3),
-        mask: 0x03,
-        content: 0x00,
-        recent: 0x00,
-        level: 0,
+        latest: (Some(0), Some(3), 0),
+        vectors: [0x03, 0x00, 0x00],
     },
     // The first packet that arrives tells its mask alone. One that tells nothing is then after a gap if its mask can't be
     // deduced; if it can, the content is missing.
@@ -293,12 +249,8 @@ static RUNS: [Run<'static>; 11] = [
             (6, &[0x8A, 0x80], Unsynced(true)),
             (9, &[0x82], Gap(0, false)),
         ],
-        last: None,
-        last_mask: Some(6),
-        mask: 0x03,
-        content: 0x00,
-        recent: 0x00,
-        level: 0,
+        latest: (None, Some(6), 0),
+        vectors: [0x03, 0x00, 0x00],
     },
 ];
 

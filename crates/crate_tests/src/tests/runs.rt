@@ -1,6 +1,7 @@
 //! Words worked by hand, each way, and the first wrong bit of others. Only `has_ones` has a loop over places; it
 //! looks at each place of a short vector.
 
+use bit_vectors::BitFault::{EndsEarly, Wrong};
 use bit_vectors::{BitEye, BitFault, BitPen, Bits, NoMemory};
 use run_code::{
     edges, from_edges, match_runs, put_extract, put_inverse_up, put_runs, take_into,
@@ -100,31 +101,11 @@ fn are_faults(
 /// Bits, what is wrong with them if they are taken, and if they are matched.
 static FAULTS: [(&[u8], BitFault, BitFault); 5] = [
     // a count above eight; a count of three ones; a ninth place
-    (
-        &[0xd0],
-        BitFault::Wrong { bit: 3 },
-        BitFault::Wrong { bit: 3 },
-    ),
-    (
-        &[0xe0],
-        BitFault::Wrong { bit: 2 },
-        BitFault::Wrong { bit: 2 },
-    ),
-    (
-        &[0x00, 0xc0],
-        BitFault::Wrong { bit: 9 },
-        BitFault::Wrong { bit: 0 },
-    ),
-    (
-        &[0xc6],
-        BitFault::EndsEarly { bit: 8 },
-        BitFault::EndsEarly { bit: 8 },
-    ),
-    (
-        &[0xc6, 0xc0],
-        BitFault::Wrong { bit: 9 },
-        BitFault::Wrong { bit: 9 },
-    ),
+    (&[0xd0], Wrong { bit: 3 }, Wrong { bit: 3 }),
+    (&[0xe0], Wrong { bit: 2 }, Wrong { bit: 2 }),
+    (&[0x00, 0xc0], Wrong { bit: 9 }, Wrong { bit: 0 }),
+    (&[0xc6], EndsEarly { bit: 8 }, EndsEarly { bit: 8 }),
+    (&[0xc6, 0xc0], Wrong { bit: 9 }, Wrong { bit: 9 }),
 ];
 
 #[test]
