@@ -10,6 +10,7 @@ module is compiled another way: compared (.ci/browser.py), not proved. Two build
 """
 
 import os
+import pathlib
 import re
 import shutil
 import subprocess
@@ -81,17 +82,14 @@ def make(module, to, kit, exports, for_c=False, left_out=lambda text: text):
         sys.exit("library/module.py: the package binaryen, which has wasm-opt, is not there")
     tools = f"{kit}/toolchain/bin"
     with tempfile.TemporaryDirectory(prefix="pocket-module-") as folder:
-        at = lambda name: os.path.join(folder, name)
-        with open(at("turned.ll"), "w", encoding="utf-8", errors="surrogateescape") as file:
-            file.write(turned(left_out(retarget.text_of(module, f"{tools}/clang", "x86_64-unknown-linux-gnu")), exports))
+        at = lambda name: pathlib.Path(folder, name)
+        text = turned(left_out(retarget.text_of(module, f"{tools}/clang", "x86_64-unknown-linux-gnu")), exports)
+        at("turned.ll").write_text(text, "utf-8", "surrogateescape")
         run = lambda *words: subprocess.run(words, check=True, stderr=subprocess.PIPE)
         try:
             if for_c:
                 run(f"{tools}/clang", *FLAGS, *FOR_C, "-S", "-emit-llvm", "-x", "ir", at("turned.ll"), "-o", at("made.ll"))
-                with open(at("made.ll"), encoding="utf-8", errors="surrogateescape") as file:
-                    text = with_turns(file.read())
-                with open(at("turned.ll"), "w", encoding="utf-8", errors="surrogateescape") as file:
-                    file.write(text)
+                at("turned.ll").write_text(with_turns(at("made.ll").read_text("utf-8", "surrogateescape")), "utf-8", "surrogateescape")
             made = ["-Xclang", "-disable-llvm-passes"] if for_c else []
             run(f"{tools}/clang", *FLAGS, *made, "-c", "-x", "ir", at("turned.ll"), "-o", at("turned.o"))
             run(f"{tools}/llvm-ar", "rcsD", at("turned.a"), at("turned.o"))
@@ -105,10 +103,8 @@ def make(module, to, kit, exports, for_c=False, left_out=lambda text: text):
 
 
 def main():
-    rattle = shutil.which("rattle")
-    if not rattle or len(sys.argv) != 3:
-        sys.exit(__doc__ if rattle else "the toolchain's rattle is not on the path")
-    return make(sys.argv[1], sys.argv[2], os.path.dirname(os.path.dirname(os.path.realpath(rattle))), EXPORTS)
+    kit = retarget.kit_of(len(sys.argv) == 3, __doc__)
+    return make(sys.argv[1], sys.argv[2], kit, EXPORTS)
 
 
 if __name__ == "__main__":

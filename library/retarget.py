@@ -18,6 +18,7 @@ With POCKET_UNALIGNED=1 in the environment, accesses that are not aligned are le
 """
 
 import os
+import pathlib
 import re
 import shutil
 import subprocess
@@ -86,11 +87,9 @@ def turn(module, folder, tools):
     """Compiles a module that was kept for riscv64."""
     clang, object_file, archive = f"{tools}/clang", f"{folder}/{CRATE}.o", f"{folder}/lib{CRATE}.a"
     text = text_of(module, clang, ARM_TRIPLE)
-    with open(f"{folder}/turned.ll", "w", encoding="utf-8", errors="surrogateescape") as file:
-        file.write(turned(text))
+    pathlib.Path(folder, "turned.ll").write_text(turned(text), "utf-8", "surrogateescape")
     subprocess.run([clang, *RISC_V_FLAGS, *STRICT, "-c", "-x", "ir", f"{folder}/turned.ll", "-o", object_file], check=True)
-    if os.path.exists(archive):
-        os.remove(archive)
+    pathlib.Path(archive).unlink(missing_ok=True)
     subprocess.run([f"{tools}/llvm-ar", "rcsD", archive, object_file], check=True)
     return 0
 
@@ -105,9 +104,8 @@ def compile_kept(words, clang, module, flags):
 
 def rows():
     """The crates, and what each stands on, of crates.txt."""
-    with open(f"{TOP}/crates.txt", encoding="utf-8") as file:
-        lines = (line.partition("#")[0].partition(":") for line in file)
-        return {name.split()[0]: uses.split() for name, _, uses in lines if name.strip()}
+    lines = (line.partition("#")[0].partition(":") for line in pathlib.Path(TOP, "crates.txt").read_text("utf-8").splitlines())
+    return {name.split()[0]: uses.split() for name, _, uses in lines if name.strip()}
 
 
 def below(crate, uses):
@@ -136,7 +134,7 @@ def build_words(kit):
 
 
 def wrapped(kit, folder, flags):
-    """A folder of tools in which clang calls this file. `rattle build` hands it no environment, so what it needs is written into it."""
+    """A folder of tools in which clang calls this file. No environment is handed to it, so what it needs is written into it."""
     made, tools = f"{folder}/toolchain", f"{kit}/toolchain"
     shutil.rmtree(made, ignore_errors=True)
     os.makedirs(f"{made}/bin")
@@ -144,18 +142,17 @@ def wrapped(kit, folder, flags):
     for name in os.listdir(f"{tools}/bin"):
         if name != "clang":
             os.symlink(f"{tools}/bin/{name}", f"{made}/bin/{name}")
-    with open(f"{made}/bin/clang", "w", encoding="utf-8") as file:
-        file.write(f"#!{sys.executable} -B\nimport sys\nsys.path.insert(0, {TOP + '/library'!r})\nimport retarget\n")
-        file.write(f"sys.exit(retarget.compile_kept(sys.argv[1:], {tools + '/bin/clang'!r}, {folder + '/module.bc'!r}, {flags!r}))\n")
-    os.chmod(f"{made}/bin/clang", 0o755)
+    clang = pathlib.Path(made, "bin", "clang")
+    clang.write_text(f"#!{sys.executable} -B\nimport sys\nsys.path.insert(0, {TOP + '/library'!r})\nimport retarget\n"
+                     f"sys.exit(retarget.compile_kept(sys.argv[1:], {tools + '/bin/clang'!r}, {folder + '/module.bc'!r}, {flags!r}))\n", "utf-8")
+    clang.chmod(0o755)
     return made
 
 
 def build(folder, words):
     """Has `rattle build` prove and build the crate into a folder; gives its status, and prints its last line."""
     archive = f"{folder}/lib{CRATE}.a"
-    if os.path.exists(archive):
-        os.remove(archive)
+    pathlib.Path(archive).unlink(missing_ok=True)
     os.makedirs(f"{TOP}/crates/{CRATE}/out", exist_ok=True)
     with open(f"{folder}/build.log", "w+", encoding="utf-8", errors="replace") as log:
         ran = subprocess.run(["rattle", "build", *words, "-o", archive], cwd=f"{TOP}/crates/{CRATE}", stdout=log, stderr=subprocess.STDOUT)
@@ -173,26 +170,22 @@ def build_with(folder, kit, words, flags):
     return status
 
 
-def build_native(folder, kit):
-    """Proves and builds the crate for x86-64."""
-    return build_with(folder, kit, ["--backend", "llvm"], [])
-
-
-def build_arm(folder, kit):
-    """Proves and builds the crate for aarch64."""
-    return build_with(folder, kit, ["--target", ARM_TRIPLE], STRICT)
+def kit_of(is_called, text):
+    """The toolchain's folder; ends with the text if a script is called in another way than it has to be."""
+    rattle = shutil.which("rattle")
+    if not rattle or not is_called:
+        sys.exit(text if rattle else "the toolchain's rattle is not on the path")
+    return os.path.dirname(os.path.dirname(os.path.realpath(rattle)))
 
 
 def main():
-    rattle = shutil.which("rattle")
-    if not rattle or sys.argv[1:2] not in ([NATIVE], [ARM], [RISC_V]) or len(sys.argv) != (4 if sys.argv[1] == RISC_V else 3):
-        sys.exit(__doc__ if rattle else "the toolchain's rattle is not on the path")
-    kit = os.path.dirname(os.path.dirname(os.path.realpath(rattle)))
+    kit = kit_of(sys.argv[1:2] in ([NATIVE], [ARM], [RISC_V]) and len(sys.argv) == (4 if sys.argv[1] == RISC_V else 3), __doc__)
     folder = os.path.abspath(sys.argv[2])
     os.makedirs(folder, exist_ok=True)
     if sys.argv[1] == RISC_V:
         return turn(sys.argv[3], folder, f"{kit}/toolchain/bin")
-    return (build_native if sys.argv[1] == NATIVE else build_arm)(folder, kit)
+    words, flags = (["--backend", "llvm"], []) if sys.argv[1] == NATIVE else (["--target", ARM_TRIPLE], STRICT)
+    return build_with(folder, kit, words, flags)
 
 
 if __name__ == "__main__":

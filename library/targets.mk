@@ -16,9 +16,8 @@ CROSS_SOURCES := $(shell find crates/pocket_c/src crates/pocket_c/specs crates/p
 # Aligned accesses alone in what the cross compiler makes, too.
 CROSS_STRICT := $(if $(unaligned),-mno-strict-align,-mstrict-align)
 
-.PHONY: lib lib-cross
-lib: lib-cross
-lib-cross: $(CROSS_OUT)/libpocket.a
+.PHONY: lib
+lib: $(CROSS_OUT)/libpocket.a
 
 # The module for aarch64 is what riscv64 is turned from, so that the crate is proved once.
 ARM_OUT := library/out/aarch64-linux-gnu$(if $(unaligned),-unaligned)

@@ -54,7 +54,6 @@ def check_report(text, values, count, limits):
         raise Wrong(f"line {len(wanted) + 1} of the report is wrong: nothing comes after the last line")
 
 
-
 def steps(values, across, at):
     """The line of the values as steps: each holds over its packet's place. If several packets share a pixel, the line goes from their
     least value to their greatest one, so that none is left out."""

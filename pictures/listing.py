@@ -35,7 +35,6 @@ LINES = [(kind, re.compile(text)) for kind, text in [
 ]]
 
 
-
 class Packet:
     """What became of the packet of one number, or of several in a row."""
 

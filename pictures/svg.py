@@ -29,7 +29,6 @@ def picture(width, height, title, parts):
     return "\n".join([head, f"<title>{escape(title)}</title>", f"<rect {size} fill='#ffffff'/>", *parts, "</svg>", ""])
 
 
-
 def ticks(count):
     """The places at which an axis of so many packets has a number."""
     whole = 10 ** (len(str(count)) - 1)

@@ -2,9 +2,8 @@
 at a desk, arrivals with more data than a packet has, and a sender and a receiver that are saved."""
 
 import random
-import subprocess
 
-from library import STRICT
+from library import STRICT, run
 from program import TOP
 from rows import VERBS
 
@@ -129,16 +128,12 @@ def differing(found, wanted):
 
 def ran(words, lines):
     """What a driver prints on these lines."""
-    given = "".join(line + "\n" for line in lines).encode()
-    done = subprocess.run(words, input=given, capture_output=True, timeout=100)
-    if done.returncode:
-        raise RuntimeError(f"it ended with {done.returncode}: {done.stderr[-200:]!r}")
-    return done.stdout.decode().splitlines()
+    return run(*words, given="".join(line + "\n" for line in lines).encode()).decode().splitlines()
 
 
 def compile_driver(compiler, library, to, *flags):
     """The driver over a library, by Debian's cross compiler."""
-    subprocess.run([compiler, "-std=c99", *STRICT, "-O2", "-static", *flags, "-o", to, f"{TOP}/tests/c/driver.c", *library], check=True)
+    run(compiler, "-std=c99", *STRICT, "-O2", "-static", *flags, "-o", to, f"{TOP}/tests/c/driver.c", *library)
 
 
 def wrong_lines():

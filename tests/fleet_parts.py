@@ -4,6 +4,7 @@ them, and the programs of the example, which are begun anew as a service manager
 import contextlib
 import json
 import os
+import pathlib
 import random
 import socket
 import subprocess
@@ -102,8 +103,7 @@ class Fleet:
         return os.path.join(self.folder, name)
 
     def write(self, name, content):
-        with open(self.at(name), "wb") as file:
-            file.write(content)
+        pathlib.Path(self.at(name)).write_bytes(content)
 
     def run(self, *words, given=b""):
         return subprocess.run([self.program, *words], input=given, capture_output=True, cwd=self.folder, check=True).stdout
@@ -135,9 +135,9 @@ class Fleet:
     def restored(self, name):
         """What `multi` gives of what came of a spacecraft."""
         store = self.run("multi", "in=-", "out=-", f"report={name}.truth", "streams=streams", given=self.stores[name])
-        with open(self.at(name + ".truth"), "rb") as file:
-            report = file.read()
-        os.remove(self.at(name + ".truth"))
+        told = pathlib.Path(self.at(name + ".truth"))
+        report = told.read_bytes()
+        told.unlink()
         return report, store
 
     def grow(self, part, whole, names=()):
@@ -149,19 +149,10 @@ class Fleet:
         """Begins to feed the files of spacecraft."""
         return begun("feed.py", engine.place, self.at("fleet.json"), *(f"{name}={self.at(name)}.come" for name in names), stderr=told)
 
-    def lost(self):
-        """A script that drops some packets."""
-        self.write("script", b"drop,3,4,1\ndrop,20,22,1\n")
-        return "script"
-
     def differing(self, folder, names=()):
         """The spacecraft of which something else was read back."""
-        found = []
-        for name in names or self.names:
-            with open(os.path.join(folder, name + ".report"), "rb") as report, open(os.path.join(folder, name + ".store"), "rb") as store:
-                if (report.read(), store.read()) != self.truth[name]:
-                    found.append(name)
-        return found
+        found = lambda name: tuple(pathlib.Path(folder, f"{name}.{kind}").read_bytes() for kind in ("report", "store"))
+        return [name for name in names or self.names if found(name) != self.truth[name]]
 
 
 class Keeper:

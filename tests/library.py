@@ -28,6 +28,13 @@ def run(*words, given=b"", cwd=TOP, timeout=600):
     return found.stdout
 
 
+def need(*commands):
+    """Skips the test, or the row, if a command isn't there."""
+    missing = [command for command in commands if not shutil.which(command)]
+    if missing:
+        raise unittest.SkipTest(f"{', '.join(missing)} is not there")
+
+
 @functools.cache
 def built():
     """A folder with the library, for all tests of it."""
@@ -51,18 +58,12 @@ class LibraryTest(unittest.TestCase):
             "PATH": os.path.dirname(PROGRAM) + os.pathsep + os.environ["PATH"], "PYTHONPATH": MODULE, "PYTHONDONTWRITEBYTECODE": "1",
             "POCKET_LIBRARY": os.environ.get("POCKET_LIBRARY", cls.room.at("libpocket.so"))}))
 
-    def need(self, *commands):
-        """Skips the test, or the row, if a command isn't there."""
-        missing = [command for command in commands if not shutil.which(command)]
-        if missing:
-            self.skipTest(f"{', '.join(missing)} is not there")
-
     def make(self, *words):
         return run("make", "-s", *words, f"BUILD={self.room.folder}", f"PROVED={PROVED}")
 
     def compiled(self, source, name, *flags, compiler="gcc", standard=("-std=c99",)):
         """A program over the library: one of tests/c, or another one."""
-        self.need(compiler)
+        need(compiler)
         own = os.path.join(TOP, "tests", "c", source)
         run(compiler, *standard, *STRICT, *flags, "-I" + os.path.join(TOP, "library"), own, "-x", "none", self.room.at("libpocket.a"), "-o", self.room.at(name))
         return self.room.at(name)

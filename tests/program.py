@@ -1,6 +1,7 @@
 """The fixture of tests that run the program: folders of its own, with files, links, pipes and closed folders, and what it leaves there."""
 
 import os
+import pathlib
 import shutil
 import socket
 import stat
@@ -106,12 +107,16 @@ class Folder:
         return os.path.join(self.folder, name)
 
     def put(self, name, content):
-        with open(self.at(name), "wb") as file:
-            file.write(content.encode() if isinstance(content, str) else content)
+        pathlib.Path(self.at(name)).write_bytes(content.encode() if isinstance(content, str) else content)
 
     def get(self, name):
         """What a file has, or None."""
         return got(self.at(name))
+
+
+def text_of(name, folder=TOP):
+    """The text of a file of the repository, or of another folder."""
+    return pathlib.Path(folder, name).read_text("utf-8")
 
 
 def ended(program, given=None):
@@ -157,8 +162,7 @@ def put(path, content, folder):
     elif kind == "link":
         os.symlink(more[0], path)
     else:
-        with open(path, "wb") as file:
-            file.write(more[-1] if more else kind)
+        pathlib.Path(path).write_bytes(more[-1] if more else kind)
         os.chmod(path, {"closed": 0o444, "another's": 0o666, "mode": more[0] if more else 0}.get(kind, 0o644))
 
 
@@ -179,8 +183,7 @@ def got(path):
     if not os.access(path, os.R_OK):
         os.chmod(path, mode | 0o400)
     try:
-        with open(path, "rb") as file:
-            return file.read()
+        return pathlib.Path(path).read_bytes()
     finally:
         if not mode & 0o400:
             os.chmod(path, mode)

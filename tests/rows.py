@@ -1,7 +1,7 @@
 """The command lines that the program is run on, verb by verb, and those that it refuses. What it must print is worked out by hand,
 from docs/FORMATS.md, and the summaries of long trials by trial.py, which shares no code with the program."""
 
-import os
+import pathlib
 
 from program import SAMPLES, TOP
 from trial import trial
@@ -42,8 +42,7 @@ FORECASTED = (b"first,last,state\n0,9,sure\n10,10,lost\n11,49,sure\n50,51,lost\n
 SIX = b"first,last,state\n0,1,sure\n2,3,lost\n4,4,open\n5,5,sure\ngaps,0,3\nend,6,3\n"
 SUMMARY = b"packets 3\nrecording 3\nstore 29\nplayed 19\ndelivered 2\nwritten 2\nlisted 1\n"
 # What --help prints, to the last byte.
-with open(os.path.join(TOP, "tests", "help.txt"), "rb") as file:
-    HELP = file.read()
+HELP = pathlib.Path(TOP, "tests", "help.txt").read_bytes()
 # What is printed of a verb: its lines of the help, its own keys, and its formats.
 RESTORE_HELP = b"".join(HELP.splitlines(True)[4:6]) + b"""\
 Keys:
@@ -69,8 +68,7 @@ def wrong(word):
 
 def sample(name):
     """A sample that ships with the program."""
-    with open(os.path.join(SAMPLES, name), "rb") as file:
-        return file.read()
+    return pathlib.Path(SAMPLES, name).read_bytes()
 
 
 def summary(*numbers):

@@ -4,6 +4,7 @@ shift of the losses comes, and it finds one where a walk of its own over the pac
 import contextlib
 import io
 import os
+import pathlib
 import random
 import tempfile
 from unittest import mock
@@ -46,8 +47,7 @@ def told(words, folder):
     try:
         with contextlib.redirect_stderr(err):
             advise.run([*words, "out=" + out])
-        with open(out, "rb") as file:
-            return file.read(), err.getvalue()
+        return pathlib.Path(out).read_bytes(), err.getvalue()
     except ToolError as error:
         return None, str(error)
 
@@ -75,11 +75,10 @@ def drawn(draw, packets):
 class Advise(LibraryTest):
     def setUp(self):
         self.folder = self.enterContext(tempfile.TemporaryDirectory(prefix="pocket-advise-"))
-        self.script = os.path.join(self.folder, "script")
+        self.script = pathlib.Path(self.folder, "script")
 
     def put(self, rows):
-        with open(self.script, "w", encoding="ascii") as file:
-            file.writelines(f"drop,{first},{last},{step}\n" for first, last, step in rows)
+        self.script.write_text("".join(f"drop,{first},{last},{step}\n" for first, last, step in rows))
 
     def told(self, *words):
         return told([*words, f"script={self.script}"], self.folder)
@@ -116,11 +115,9 @@ class Advise(LibraryTest):
         self.assertTrue(said.endswith("pocket advise: robust=0, 2 rows\n"), said)
         with mock.patch.object(advise, "SECONDS", 0):
             self.assertTrue(self.told("packets=1000", "rows=3")[1].startswith("pocket advise: robust=0, 1 packets with whole content so far\n"))
-        with open(self.script, "rb") as file:
-            script = file.read()
+        script = self.script.read_bytes()
         self.assertEqual(advise.by_program(("forecast", "packets=1000", "robust=0"), plan, script), advise.forecast(1000, 0, plan, script))
-        with open(self.script, "a", encoding="ascii") as file:
-            file.write("drop,5,3,1\n")
+        self.script.write_bytes(script + b"drop,5,3,1\n")
         self.assertEqual(self.told("packets=1000", "rows=3", "shift=1")[1], "script row 7 is wrong")
         self.assertEqual(told(["packets=9"], self.folder)[1], "script= is missing")
         self.assertEqual(told(["packets=0", "script=x", "rows=1"], self.folder)[1], "packets=0: packets= takes a number from 1 to 1000000")

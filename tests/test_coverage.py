@@ -33,7 +33,7 @@ LISTED = {
     "a switch names a value that is none there, as a desk in a handle": r"(?:case \d+|default): goto B;",
     "a vector has a word, and its last word has bytes": r"i = 1u;\nl = i;\ngoto B;|(?:j = 0ull;\nl = j;\n){2}goto B;|"
         r"B:;\nj = l;\nj = \d+ull;\nj \+= j;\ni = \(u32\)\(j\);\ni = 1u;\ni32_store16\(i, i, 0\);\n(?:[^;]+;\n?){19}",
-    "where no code is ahead the data are at their end": r"j = 0ull;\nl = j;\ni = 0u;\nl = i;\n(?:i = 1u;\nl = i;\n){2}goto B;",
+    "a count whose word is not seen ahead is wrong or cut": r"j = 0ull;\nl = j;\ni = 0u;\nl = i;|B:;\n(?:i = 0u;\nl = i;\n?){2}",
     "bytes that are summed are there": r"i = 0u;\ngoto Bfunc;",
     "data that are kept have a word of bytes after their last one": r"B:;\nj = 0ull;(?:[^;]+;\n?)*i64_load8_u\(j, i, 0\);(?:[^;]+;\n?)*j = turn64\(j\);\n[lp] = j;",
     "the moves of a word are those of its mask, and each has room":

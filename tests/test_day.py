@@ -11,7 +11,7 @@ import sys
 import tempfile
 import unittest
 
-from program import PROGRAM, TOP, Folder
+from program import PROGRAM, TOP, Folder, text_of
 from table import table
 
 # The data of a transfer frame, in bytes.
@@ -246,8 +246,7 @@ def sent_anew(pocket, draw, name, count):
 
 def cut_at(pocket, name):
     """The byte of a store at which the document's search finds the most packets lost, by which the store is cut in two."""
-    with open(os.path.join(TOP, "docs", "OPERATING.md"), encoding="utf-8") as file:
-        search = next(line[6:] for line in file if line.startswith("    $ perl -0777"))
+    search = next(line[6:] for line in text_of("docs/OPERATING.md").splitlines() if line.startswith("    $ perl -0777"))
     ran = subprocess.run(["bash", "-c", search.replace("restarted.store", f"{name}.store")], cwd=pocket.folder, capture_output=True, text=True, check=True)
     place = max((int(line.split()[-2]), int(line.split()[1].rstrip(":"))) for line in ran.stdout.splitlines())[1]
     store = pocket.get(f"{name}.store")

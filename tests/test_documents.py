@@ -9,17 +9,11 @@ import subprocess
 import unittest
 
 import names
-from program import TOP
+from program import TOP, text_of
 
 VERB = re.compile(r"pocket ([a-z]+) (.+)")
 KEY = re.compile(r"(\[?)([a-z]+)=")
 RANGE = re.compile(r"(\d+) to (\d+)")
-
-
-def text_of(name):
-    """The text of a file of the repository."""
-    with open(os.path.join(TOP, name), encoding="utf-8") as file:
-        return file.read()
 
 
 def verbs_of_help(text):

@@ -48,13 +48,7 @@ WANTED = {
     "a": {(5, "pocket: out of memory"), (1, "pocket: reading failed"), (1, "pocket: writing failed")},
     "o": {(1, "pocket: reading failed"), (1, "pocket: writing failed")},
     "r": {(1, "pocket: reading failed")},
-    "w": {(1, "pocket: writing failed")},
-    "n": {(1, "pocket: writing failed")},
-    "u": {(1, "pocket: writing failed")},
-    "y": {(1, "pocket: writing failed")},
-    "m": {(1, "pocket: writing failed")},
-    "s": {(0, "")},
-    "t": {(0, "")},
+    **dict.fromkeys("wnuym", {(1, "pocket: writing failed")}),
 }
 
 

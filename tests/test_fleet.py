@@ -14,7 +14,7 @@ import unittest
 import zlib
 from unittest import mock
 
-from library import LibraryTest
+from library import LibraryTest, need
 from program import PROGRAM, SAMPLES
 
 try:
@@ -225,7 +225,8 @@ def points(fleet, engine, folder):
     engine.client.flushall()
     os.makedirs(folder)
     times = ["apid=100", "start=2026-11-30T06:00:00Z", "step=1", "fields=" + os.path.join(SAMPLES, "hk.csv")]
-    fleet.run("play", "in=" + os.path.join(SAMPLES, "hk.store"), "out=hk.come", "report=-", "script=" + fleet.lost(), "apid=100")
+    fleet.write("script", b"drop,3,4,1\ndrop,20,22,1\n")
+    fleet.run("play", "in=" + os.path.join(SAMPLES, "hk.store"), "out=hk.come", "report=-", "script=script", "apid=100")
     fleet.run("restore", "in=hk.come", "out=hk.rec", "report=hk.report", "bits=64", "apid=100")
     fleet.run("multi", "in=hk.come", "out=-", "report=hk.multi", "streams=streams")
     fleet.run("table", "in=hk.rec", "out=hk.table", "report=-", times[3], "bits=64")
@@ -266,7 +267,7 @@ def refusals(fleet, engine, folder):
 
 class Spacecraft(LibraryTest):
     def setUp(self):
-        self.need("redis-server")
+        need("redis-server")
         self.folder = self.enterContext(tempfile.TemporaryDirectory(prefix="pocket-fleet-"))
         self.engine = Engine(self.folder)
         self.engine.start()

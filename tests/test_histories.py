@@ -3,6 +3,7 @@ and what a Receiver finds, contents too, is what `show` lists; every other histo
 desk in memory the two commands write the same. Each history is that of its seed."""
 
 import os
+import pathlib
 import random
 import subprocess
 import tempfile
@@ -75,13 +76,11 @@ def differs(seed, folder):
     """What differs in the history of a seed, or None."""
     draw = random.Random(seed)
     bits, inputs, flags, robust, mask, copies = history(draw)
-    at = lambda name: os.path.join(folder, f"{seed}.{name}")
-    with open(at("rec"), "wb") as file:
-        file.write(b"".join(inputs))
-    with open(at("plan"), "w") as file:
-        file.write(plan(flags, robust))
+    at = lambda name: pathlib.Path(folder, f"{seed}.{name}")
+    at("rec").write_bytes(b"".join(inputs))
+    at("plan").write_text(plan(flags, robust))
     first = ["mask=" + mask.hex()] if mask else []
-    store = ran("compress", "in=" + at("rec"), "out=-", f"bits={bits}", f"apid={APID}", "robust=0", "plan=" + at("plan"), *first)
+    store = ran("compress", f"in={at('rec')}", "out=-", f"bits={bits}", f"apid={APID}", "robust=0", f"plan={at('plan')}", *first)
     words = ("compress", "in=rec", "out=store", f"bits={bits}", f"apid={APID}", "robust=0", "plan=plan", *first)
     if run(*words, inputs={"rec": b"".join(inputs), "plan": plan(flags, robust).encode()}) != {"store": store}:
         return "the store at a desk"
@@ -95,9 +94,8 @@ def differs(seed, folder):
         return "the store"
     arrived = [(t, damaged(draw, data)) for t, data in enumerate(sent) for _ in range(copies[t])]
     played = b"".join(packed(SpacePacket(APID, t, data)) for t, data in arrived)
-    with open(at("played"), "wb") as file:
-        file.write(played)
-    listing = ran("show", "in=" + at("played"), "out=-", f"bits={bits}", f"apid={APID}").decode()
+    at("played").write_bytes(played)
+    listing = ran("show", f"in={at('played')}", "out=-", f"bits={bits}", f"apid={APID}").decode()
     if run("show", "in=played", "out=listing", f"bits={bits}", f"apid={APID}", inputs={"played": played}) != {"listing": listing.encode()}:
         return "the listing at a desk"
     with Receiver(bits) as receiver:

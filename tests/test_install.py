@@ -10,7 +10,7 @@ import tempfile
 import unittest
 
 from library import PROVED
-from program import PROGRAM, SAMPLES, TOP
+from program import PROGRAM, SAMPLES, TOP, Folder, text_of
 
 FILES = {"bin/pocket": 0o755, "share/man/man1/pocket.1": 0o644, "share/bash-completion/completions/pocket": 0o644, "share/zsh/site-functions/_pocket": 0o644}
 PACKAGES = ["libpocket-dev", "libpocket1", "pocket", "python3-pocket"]
@@ -118,8 +118,7 @@ class Install(unittest.TestCase):
 
     def c_program(self, root, libraries):
         """What the program in C of docs/CALLING.md says over the packages."""
-        with open(f"{TOP}/docs/CALLING.md", encoding="utf-8") as file, open(f"{self.folder}/printed.c", "w", encoding="utf-8") as source:
-            source.write(file.read().split("```c\n")[1].split("```")[0])
+        Folder(self.folder).put("printed.c", text_of("docs/CALLING.md").split("```c\n")[1].split("```")[0])
         env = dict(os.environ, PKG_CONFIG_LIBDIR=f"{libraries}/pkgconfig", PKG_CONFIG_SYSROOT_DIR=root, LD_LIBRARY_PATH=libraries)
         flags = run("pkg-config", "--cflags", "--libs", "pocket", env=env)
         built = run("gcc", f"{self.folder}/printed.c", *flags[1].split(), "-o", f"{self.folder}/printed")

@@ -6,8 +6,9 @@ import shutil
 import subprocess
 import sys
 
-from library import STRICT, LibraryTest, run
-from program import PROGRAM, SAMPLES, TOP
+from library import STRICT, LibraryTest, need, run
+from program import PROGRAM, SAMPLES, TOP, text_of
+from rows import sample
 
 COMPILERS = [("gcc", ["-std=c99"]), ("gcc", ["-std=c17"]), ("clang", ["-std=c99"]), ("g++", ["-x", "c++"]), ("clang++", ["-x", "c++"])]
 # A stream of four packets of 8 bits, by hand from docs/FORMATS.md; packet 2 is lost.
@@ -19,12 +20,7 @@ WRAPPED = "-Wl,--wrap=malloc,--wrap=realloc,--wrap=free"
 PYTHON = "/usr/bin/python3"
 
 
-def text_of(*names):
-    with open(os.path.join(*names), encoding="utf-8") as file:
-        return file.read()
-
-
-HEADER = text_of(TOP, "library", "pocket.h")
+HEADER = text_of("library/pocket.h")
 
 
 class Installed(LibraryTest):
@@ -34,7 +30,7 @@ class Installed(LibraryTest):
         self.make("install", *words)
         for name in "include/pocket.h lib/libpocket.a lib/libpocket.so lib/libpocket.so.1 lib/pkgconfig/pocket.pc".split():
             self.assertTrue(os.path.exists(f"{root}/usr/{name}"), name)
-        text = text_of(root, "usr", "lib", "pkgconfig", "pocket.pc")
+        text = text_of("usr/lib/pkgconfig/pocket.pc", root)
         self.assertRegex(text, r"(?m)^prefix=/usr$")
         self.assertIn(f'#define POCKET_VERSION "{re.search(r"^Version: (.+)$", text, re.M)[1]}"', HEADER)
         self.make("uninstall", *words)
@@ -42,7 +38,7 @@ class Installed(LibraryTest):
 
     def test_module(self):
         """The system's Python finds the installed module, of this version, and that the library, if both lie where it looks."""
-        self.need(PYTHON)
+        need(PYTHON)
         root = self.room.at("local")
         self.make("install", "DESTDIR=" + root, "PREFIX=/usr/local")
         folder = run("make", "-s", "--eval=where: ; @echo $(MODULES)", "where").decode().strip()
@@ -84,7 +80,7 @@ class Calls(LibraryTest):
 
     def test_names(self):
         """A class in C++ keeps the names of its members, whichever of its files takes the header, and a call is its checked one."""
-        self.need("g++")
+        need("g++")
         link = "struct Link { int pocket_send(int); int pocket_close(); };\n"
         parts = {"defines": '#include <pocket.h>\n' + link + "int Link::pocket_send(int it) { return it + 1; }\nint Link::pocket_close() { return 1; }\n",
                  "calls": link + "int both() { Link it; return it.pocket_send(40) + it.pocket_close(); }\n",
@@ -101,12 +97,12 @@ class Calls(LibraryTest):
 
     def test_old_processor(self):
         """A processor of x86-64-v2 runs the library, as pocket.h says; one of x86-64 alone may not."""
-        self.need("qemu-x86_64")
+        need("qemu-x86_64")
         self.passes("qemu-x86_64", "-cpu", "Nehalem", self.compiled("worked.c", "worked-v2", "-static"))
 
     def test_valgrind(self):
         """There is no error and no leak, also if memory is refused."""
-        self.need("valgrind")
+        need("valgrind")
         for source, flags, words in (("worked.c", ["-g"], []), ("refused_memory.c", ["-g", WRAPPED], ["8", "1024"])):
             with self.subTest(source):
                 self.passes("valgrind", "-q", "--error-exitcode=9", "--leak-check=full", self.compiled(source, "debug-" + source[:-2], *flags), *words)
@@ -134,8 +130,7 @@ class Examples(LibraryTest):
         """The two loops write what the program writes of the same recording, schedule and fields."""
         at = self.room.at
         self.room.put("plan", SCHEDULE)
-        with open(os.path.join(SAMPLES, "hk.rec"), "rb") as file:
-            store = run(self.compiled("../../library/examples/onboard.c", "onboard", "-O2"), given=file.read())
+        store = run(self.compiled("../../library/examples/onboard.c", "onboard", "-O2"), given=sample("hk.rec"))
         self.assertEqual(store, run(PROGRAM, "compress", f"in={SAMPLES}/hk.rec", "out=-", "bits=64", "apid=100", "robust=2", "plan=" + at("plan")))
         told = run(sys.executable, os.path.join(TOP, "library", "examples", "ground.py"), at("back"), given=store)
         run(PROGRAM, "restore", "in=-", "out=" + at("restored"), "report=" + at("report"), "bits=64", "apid=100", given=store)
@@ -147,7 +142,7 @@ class Examples(LibraryTest):
         """The programs that docs/CALLING.md prints, of at most twenty lines, send and receive the worked packet."""
         for language in ("c", "python"):
             with self.subTest(language):
-                code = re.search(rf"^```{language}\n(.*?)^```$", text_of(TOP, "docs", "CALLING.md"), re.M | re.S)[1]
+                code = re.search(rf"^```{language}\n(.*?)^```$", text_of("docs/CALLING.md"), re.M | re.S)[1]
                 self.assertLessEqual(len(code.splitlines()), 20)
                 name = "printed." + language
                 self.room.put(name, code)

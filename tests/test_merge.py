@@ -4,6 +4,7 @@ what arrived. Also each refusal, the order among APIDs, and the memory."""
 
 import itertools
 import os
+import pathlib
 import random
 import subprocess
 import sys
@@ -117,8 +118,7 @@ class Case:
             order = [(apid, whole) for _, apid, _, whole in sorted(timed)] if is_common else woven(draw, own)
             self.orders.append(order)
             path = os.path.join(folder, f"station{station}")
-            with open(path, "wb") as file:
-                file.write(b"".join(whole for _, whole in order))
+            pathlib.Path(path).write_bytes(b"".join(whole for _, whole in order))
             words += [path, *(f"near={apid}:{self.near[station, apid]}" for apid in self.apids if (station, apid) in self.near)]
         return words + ["span=short"] * self.is_short
 

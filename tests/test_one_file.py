@@ -9,6 +9,7 @@ part there, and nothing here."""
 
 import atexit
 import concurrent.futures
+import filecmp
 import functools
 import os
 import random
@@ -19,8 +20,8 @@ import tempfile
 import unittest
 
 from driver import CASES, HEAP, compile_driver, differing, long_data, ran, random_cases, states, worked, wrong_lines
-from library import PROVED, run
-from program import PROGRAM, TOP, Folder, ProgramTest
+from library import PROVED, need, run
+from program import PROGRAM, TOP, Folder, ProgramTest, text_of
 from rows import DATA, TEXTS, VERBS, WORDS
 from test_files import FILES
 
@@ -28,15 +29,15 @@ DIST = f"{TOP}/dist"
 MADE = ["pocket.c", "pocket.h", "pocket-program.c", "pocket.html"]
 STRICT = "-std=c99 -Wall -Wextra -pedantic -Werror".split()
 DRIVER = f"{TOP}/tests/c/driver.c"
-OWN = f"{TOP}/tests/c/one_file.c"
 BOARD, LEON3, RISCV32 = (f"{TOP}/library/examples/{name}" for name in ("cortex-m", "leon3", "riscv32"))
-QEMU_BOARD = "qemu-system-arm -M mps2-an385 -display none -serial none -monitor none -semihosting-config enable=on,target=native -kernel".split()
-# A machine without an operating system: QEMU's loader puts what the driver reads into its memory (library/examples/leon3/board.h).
-LOADER = "-display none -monitor none -serial stdio -device loader,file=INPUT,addr=0x{}000000,force-raw=on -device loader,addr=0x{}FFFFFC,data=LENGTH,data-len=4 -kernel"
-QEMU_LEON3 = f"qemu-system-sparc -M leon3_generic {LOADER.format(42, 41)}".split()
-QEMU_RISCV32 = f"qemu-system-riscv32 -M virt -bios none {LOADER.format(82, 81)}".split()
-MACHINE = ["-Os", "-ffreestanding", "-nostdlib", "-DPOCKET_NO_HEAP", "-DPOCKET_NO_LIBC", "-DPOCKET_BARE", "-DDRIVER_ROOM=(1<<17)", "-I", LEON3,
-           "-I", f"{TOP}/tests/c", f"{LEON3}/helpers.c", f"{TOP}/tests/c/bare.c"]
+# A machine without an operating system: QEMU's loader puts what the driver reads into its memory (library/examples/leon3/loaded.c).
+LOADER = "-display none -monitor none -serial stdio -device loader,file=INPUT,addr=0x{},force-raw=on -device loader,addr=0x{},data=LENGTH,data-len=4 -kernel"
+QEMU_BOARD = f"qemu-system-arm -M mps2-an385 -semihosting-config enable=on,target=native {LOADER.format('21000004', '21000000')}".split()
+QEMU_LEON3 = f"qemu-system-sparc -M leon3_generic {LOADER.format('42000000', '41FFFFFC')}".split()
+QEMU_RISCV32 = f"qemu-system-riscv32 -M virt -bios none {LOADER.format('82000000', '81FFFFFC')}".split()
+MACHINE = ["-Os", "-ffreestanding", "-DPOCKET_NO_HEAP", "-DPOCKET_BARE", "-DDRIVER_ROOM=(1<<17)", "-I", LEON3, "-I", f"{TOP}/tests/c", f"{LEON3}/loaded.c",
+           f"{TOP}/tests/c/bare.c"]
+NO_LIBC = ["-nostdlib", "-DPOCKET_NO_LIBC", f"{LEON3}/helpers.c"]
 SANITIZERS = ["-fsanitize=address,undefined", "-fno-sanitize-recover=all"]
 VALGRIND = ["valgrind", "-q", "--error-exitcode=9", "--leak-check=full"]
 # What the driver is compiled by, with which flags, and what runs it.
@@ -54,13 +55,12 @@ TARGETS = {
     "sparc, by the instructions of LEON3": ("sparc64-linux-gnu-gcc", ["-Os", "-static", "-m32", "-mcpu=leon3"], ["qemu-sparc32plus"]),
     "riscv64": ("riscv64-linux-gnu-gcc", ["-Os", "-static"], ["qemu-riscv64"]),
     "aarch64": ("aarch64-linux-gnu-gcc", ["-Os", "-static"], ["qemu-aarch64"]),
-    "Cortex-M3": ("arm-none-eabi-gcc", ["-Os", "-Wno-format", "-mcpu=cortex-m3", "-mthumb", "--specs=rdimon.specs", "-nostartfiles",
-                                        "-DDRIVER_ROOM=(1<<17)", "-DPOCKET_NO_HEAP", "-Wl,--wrap=main", "-T", f"{BOARD}/link.ld",
-                                        f"{BOARD}/start.c", f"{TOP}/tests/c/board.c"], QEMU_BOARD),
+    "Cortex-M3": ("arm-none-eabi-gcc", ["-mcpu=cortex-m3", "-mthumb", *MACHINE, "-nostartfiles", "-T", f"{BOARD}/link.ld", f"{BOARD}/start.c",
+                                        f"{BOARD}/board.c"], QEMU_BOARD),
     "LEON3, a machine": ("sparc64-linux-gnu-gcc", ["-m32", "-mcpu=leon3", "-fno-pic", "-fno-pie", "-static", "-no-pie", "-z", "noexecstack",
-                                                   *MACHINE, "-T", f"{LEON3}/link.ld", f"{LEON3}/start.S", f"{LEON3}/board.c"], QEMU_LEON3),
-    "RISC-V of 32 bits, a machine": ("riscv64-unknown-elf-gcc", ["-march=rv32imac", "-mabi=ilp32", "-mcmodel=medany", *MACHINE, "-T", f"{RISCV32}/link.ld",
-                                                                 f"{RISCV32}/start.S", f"{RISCV32}/board.c"], QEMU_RISCV32),
+                                                   *MACHINE, *NO_LIBC, "-T", f"{LEON3}/link.ld", f"{LEON3}/start.S", f"{LEON3}/board.c"], QEMU_LEON3),
+    "RISC-V of 32 bits, a machine": ("riscv64-unknown-elf-gcc", ["-march=rv32imac", "-mabi=ilp32", "-mcmodel=medany", *MACHINE, *NO_LIBC, "-T",
+                                                                 f"{RISCV32}/link.ld", f"{RISCV32}/start.S", f"{RISCV32}/board.c"], QEMU_RISCV32),
 }
 # What the file asks for: of the C library, and of the compiler's own functions on a processor without an operating system.
 LIBC = {"memcpy", "memmove", "memset"}
@@ -78,12 +78,6 @@ BACKWARDS = "m + last + SLACK - ({} - BASE) - count"
 WRONG = {"memory.copy backwards, with the big end first": ("memmove(out, in, count);", f"memmove(out == place(to) ? {BACKWARDS.format('to')} : out, "
                                                            f"in == place(from) ? {BACKWARDS.format('from')} : in, count);"),
          "words in the order of the processor": ("__builtin_bswap##bits(value)", "(value)")}
-
-
-def need(*programs):
-    missing = [it for it in programs if not shutil.which(it)]
-    if missing:
-        raise unittest.SkipTest(f"{', '.join(missing)} is not there")
 
 
 class Room(Folder):
@@ -111,8 +105,7 @@ class Room(Folder):
         compiler, flags, emulator = TARGETS[name]
         need(compiler, *emulator[:1])
         to = self.at(name.replace(", ", "-").replace(" ", "-"))
-        warned = ["-std=gnu99" if name == "Cortex-M3" else "-std=c99", "-Wall", "-Wextra", "-Werror"]
-        run(compiler, *warned, "-DPOCKET_ONE_FILE", *flags, "-I", made, "-o", to, DRIVER, f"{made}/pocket.c")
+        run(compiler, "-std=c99", "-Wall", "-Wextra", "-Werror", "-DPOCKET_ONE_FILE", *flags, "-I", made, "-o", to, DRIVER, f"{made}/pocket.c")
         return [*emulator, to]
 
 
@@ -122,11 +115,10 @@ def over(words, path):
 
 
 def printed(words, lines):
-    text = "".join(line + "\n" for line in lines).encode()
-    if words[:len(QEMU_LEON3)] != QEMU_LEON3 and words[:len(QEMU_RISCV32)] != QEMU_RISCV32:
-        return run(*words, given=text).decode().splitlines()
+    if "-kernel" not in words:
+        return ran(words, lines)
     with tempfile.NamedTemporaryFile(prefix="pocket-lines-") as file:
-        file.write(text)
+        file.writelines(f"{line}\n".encode() for line in lines)
         file.flush()
         return run(*over(words, file.name)).decode().splitlines()
 
@@ -148,13 +140,8 @@ def same_as_committed(room):
     """Whether dist/ has what `make dist` makes."""
     if not os.path.isdir(DIST):
         raise unittest.SkipTest("dist/, which is made before a hand-in, is not there")
-    other = [name for name in MADE if not os.path.exists(f"{DIST}/{name}") or not same(f"{DIST}/{name}", os.path.join(room.made, name))]
+    other = [name for name in MADE if not os.path.exists(f"{DIST}/{name}") or not filecmp.cmp(f"{DIST}/{name}", f"{room.made}/{name}", shallow=False)]
     return f"{other} are others than the sources make: make dist" if other else None
-
-
-def same(one, other):
-    with open(one, "rb") as first, open(other, "rb") as second:
-        return first.read() == second.read()
 
 
 def symbols(compiler, flags, made, to):
@@ -175,12 +162,12 @@ def asks(room, name):
     return None
 
 
-def upsets(room):
-    """How a call does harm, or has no end, if a bit of its block was turned before it (tests/c/upset.c), or None."""
-    need("gcc")
-    to = room.at("upset")
-    run("gcc", *STRICT, "-O1", "-g", *SANITIZERS, "-D_POSIX_C_SOURCE=200809L", "-I", room.made, "-o", to, f"{TOP}/tests/c/upset.c", f"{room.made}/pocket.c")
-    found = run(to, "1", "13", "64", "1024").decode().splitlines()[-1]
+def fails(room, source, flags, *words, compiler="gcc", before=()):
+    """How a program of tests/c fails, which has to pass some and to fail none, or None."""
+    need(compiler, *before[:1])
+    to = room.at("-".join([source, compiler, *words[:1]]))
+    run(compiler, *STRICT, *flags, "-I", room.made, "-o", to, f"{TOP}/tests/c/{source}.c")
+    found = run(*before, to, *words).decode().splitlines()[-1]
     return None if found.endswith(" passed, 0 failed") and not found.startswith("0 ") else found
 
 
@@ -200,27 +187,16 @@ def complains(room, compiler):
     return None
 
 
-def own(room, compiler, how, flags, before):
-    """How tests/c/one_file.c fails, or None."""
-    need(compiler, *before[:1])
-    to = room.at(f"own-{compiler}-{how}")
-    run(compiler, *STRICT, *flags, "-I", room.made, "-o", to, OWN)
-    found = run(*before, to, how).decode().splitlines()[-1]
-    return None if found.endswith(" passed, 0 failed") and not found.startswith("0 ") else found
-
-
 def wrong(room, name):
     """Whether a build with a wrong order of bytes fails on powerpc."""
     text, instead = WRONG[name]
-    with open(f"{room.made}/pocket.c", encoding="utf-8") as file:
-        source = file.read()
+    source = text_of("pocket.c", room.made)
     if source.count(text) != 1:
         return f"the file has {source.count(text)} times {text!r}"
     folder = room.at(name.split(" ")[0])
     os.makedirs(folder)
     shutil.copy(f"{room.made}/pocket.h", folder)
-    with open(f"{folder}/pocket.c", "w", encoding="utf-8") as file:
-        file.write(source.replace(text, instead))
+    Folder(folder).put("pocket.c", source.replace(text, instead))
     compiler, _, emulator = TARGETS["powerpc"]
     need(compiler, *emulator)
     to = os.path.join(folder, "driver")
@@ -230,28 +206,16 @@ def wrong(room, name):
     return "it gives what is right" if found == [line for lines in room.wanted.values() for line in lines] else None
 
 
-def helpers(room):
-    """How the functions for 64 bits of the examples differ from what C says, or None."""
-    run("gcc", *STRICT, "-O1", "-o", room.at("helpers"), f"{TOP}/tests/c/helpers.c")
-    found = run(room.at("helpers")).decode().splitlines()[-1]
-    return None if found.endswith(" passed, 0 failed") else found
-
-
 def board(room, example, compiler, machine):
     """Whether the loop on board of an example makes the packets that `compress` makes."""
     need("make", compiler, machine[0])
     folder, data = room.at(f"board-{machine[0]}"), f"{TOP}/crates/pocket/data/hk.rec"
     os.makedirs(folder)
-    shutil.copy(data, folder)
     run("make", "-s", "-C", example, f"POCKET={room.made}", f"OUT={folder}")
-    told = run(*over(machine, data), f"{folder}/onboard.elf", cwd=folder)
-    if machine != QEMU_BOARD:
-        with open(f"{folder}/hk.store", "wb") as file:
-            file.write(told)
-    with open(f"{folder}/plan", "w", encoding="ascii") as file:
-        file.write("20,4294967295,20,p\n30,30,1,fr\n")
-    run(PROGRAM, "compress", "in=hk.rec", "out=wanted", "bits=64", "apid=100", "robust=2", "plan=plan", cwd=folder)
-    return None if same(f"{folder}/hk.store", f"{folder}/wanted") else "its packets are others"
+    told = run(*over(machine, data), f"{folder}/onboard.elf")
+    Folder(folder).put("plan", "20,4294967295,20,p\n30,30,1,fr\n")
+    wanted = run(PROGRAM, "compress", f"in={data}", "out=-", "bits=64", "apid=100", "robust=2", f"plan={folder}/plan")
+    return None if told == wanted else "its packets are others"
 
 
 def from_python(room):
@@ -260,15 +224,6 @@ def from_python(room):
     run("gcc", "-std=c99", "-O1", "-fPIC", "-shared", "-o", to, f"{room.made}/pocket.c")
     found = subprocess.run([sys.executable, "-m", "unittest", "test_states"], cwd=f"{TOP}/tests", capture_output=True, env=dict(os.environ, POCKET_LIBRARY=to), timeout=100)
     return found.stderr[-400:] if found.returncode else None
-
-
-def any_states(room):
-    """How bytes that are taken for a state do harm (tests/c/states.c), by the sanitizers, or None."""
-    need("gcc")
-    to = room.at("states")
-    run("gcc", *STRICT, "-O1", "-g", *SANITIZERS, "-I", room.made, "-o", to, f"{TOP}/tests/c/states.c", f"{room.made}/pocket.c")
-    found = run(to, "20000").decode().splitlines()[-1]
-    return None if found.endswith(" passed, 0 failed") and not found.startswith("0 ") else found
 
 
 def fuzzed_states(room):
@@ -288,21 +243,23 @@ def tries(room):
         yield f"{compiler} takes it without a flag or a complaint", lambda c=compiler: complains(room, c)
     for name in TARGETS:
         yield f"{name}: as the library", lambda n=name: compares(room, n)
-    yield "the file's own", lambda: own(room, "gcc", "all", ["-O1"], [])
-    yield "the file's own, by the sanitizers", lambda: own(room, "clang", "some", ["-O1", "-g", *SANITIZERS], [])
-    yield "the file's own, under valgrind", lambda: own(room, "gcc", "some", ["-O1", "-g"], VALGRIND)
-    yield "the file's own, on powerpc", lambda: own(room, TARGETS["powerpc"][0], "some", ["-O1", "-static"], TARGETS["powerpc"][2])
+    file, powerpc = f"{room.made}/pocket.c", {"compiler": TARGETS["powerpc"][0], "before": TARGETS["powerpc"][2]}
+    yield "the file's own", lambda: fails(room, "one_file", ["-O1"], "all")
+    yield "the file's own, by the sanitizers", lambda: fails(room, "one_file", ["-O1", "-g", *SANITIZERS], "some", compiler="clang")
+    yield "the file's own, under valgrind", lambda: fails(room, "one_file", ["-O1", "-g"], "some", before=VALGRIND)
+    yield "the file's own, on powerpc", lambda: fails(room, "one_file", ["-O1", "-static"], "some", **powerpc)
     for name in WRONG:
         yield f"a wrong build fails: {name}", lambda n=name: wrong(room, n)
     for name in BARE:
         yield f"what it asks for: {name}", lambda n=name: asks(room, n)
-    yield "each bit of a block turned", lambda: upsets(room)
-    yield "the helpers for 64 bits", lambda: helpers(room)
+    checked = ["-O1", "-g", *SANITIZERS, file]
+    yield "each bit of a block turned", lambda: fails(room, "upset", [*checked, "-D_POSIX_C_SOURCE=200809L"], "1", "13", "64", "1024")
+    yield "the helpers for 64 bits", lambda: fails(room, "helpers", ["-O1"])
     for name, *how in (("Cortex-M", BOARD, "arm-none-eabi-gcc", QEMU_BOARD), ("LEON3", LEON3, "sparc64-linux-gnu-gcc", QEMU_LEON3),
                        ("RISC-V of 32 bits", RISCV32, "riscv64-unknown-elf-gcc", QEMU_RISCV32)):
         yield f"the example for {name}", lambda h=how: board(room, *h)
     yield "states from Python", lambda: from_python(room)
-    yield "any bytes as a state", lambda: any_states(room)
+    yield "any bytes as a state, by the sanitizers", lambda: fails(room, "states", checked, "20000")
     yield "any bytes as a state, by libFuzzer", lambda: fuzzed_states(room)
 
 

@@ -2,6 +2,7 @@
 """pictures/draw.py, and the pictures of docs/. Run alone this draws those anew."""
 
 import os
+import pathlib
 import subprocess
 import sys
 import tempfile
@@ -84,8 +85,7 @@ def draw_table(fields, text, report):
     """What is drawn of a table, its report and the parameter file of its fields."""
     with tempfile.TemporaryDirectory() as folder:
         for name, content in (("fields", fields), ("report", report)):
-            with open(os.path.join(folder, name), "w") as file:
-                file.write(content)
+            pathlib.Path(folder, name).write_text(content)
         return draw(["table", os.path.join(folder, "report"), os.path.join(folder, "fields")], text.encode())
 
 
@@ -169,5 +169,4 @@ class Pictures(unittest.TestCase):
 
 if __name__ == "__main__":
     for name, picture in drawn().items():
-        with open(os.path.join(TOP, "docs", "pictures", name), "wb") as file:
-            file.write(picture.stdout)
+        pathlib.Path(TOP, "docs", "pictures", name).write_bytes(picture.stdout)

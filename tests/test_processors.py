@@ -12,7 +12,7 @@ import unittest
 
 from driver import CASES, HEAP, compile_driver, differing, lines_of, ran, random_cases, verb_lines, worked, wrong_lines
 from library import PROVED
-from program import PROGRAM, TOP
+from program import PROGRAM, TOP, Folder
 
 TARGETS = {"aarch64-linux-gnu": "qemu-aarch64", "riscv64-linux-gnu": "qemu-riscv64"}
 
@@ -20,34 +20,29 @@ TARGETS = {"aarch64-linux-gnu": "qemu-aarch64", "riscv64-linux-gnu": "qemu-riscv
 def by_program(case, printed, room):
     """Whether the program's `compress` and `restore` give what the driver printed of a case; or what is wrong."""
     bits, mask, robust, steps = case
-    at = lambda name: os.path.join(room, name)
-    with open(at("x"), "wb") as file:
-        file.write(b"".join(bytes.fromhex(given) for _, _, given in steps))
-    with open(at("s"), "w", encoding="ascii") as file:
-        letters = lambda flags: "".join(letter for bit, letter in enumerate("pfr") if flags >> bit & 1)
-        file.writelines(f"{t},{t},1,{letters(flags)}\n" for t, (flags, _, _) in enumerate(steps) if flags)
+    files = Folder(room)
+    files.put("x", b"".join(bytes.fromhex(given) for _, _, given in steps))
+    letters = lambda flags: "".join(letter for bit, letter in enumerate("pfr") if flags >> bit & 1)
+    files.put("s", "".join(f"{t},{t},1,{letters(flags)}\n" for t, (flags, _, _) in enumerate(steps) if flags))
     words = f"in=x out=y bits={bits} apid=100 robust={robust} plan=s" + (f" mask={mask.lower()}" if mask else "")
     subprocess.run([PROGRAM, "compress", *words.split()], cwd=room, check=True, timeout=60)
     sent = [bytes.fromhex(line.split()[5]) for line in printed if line.startswith("sent 0")]
     packet = lambda t, data: bytes([0, 100, 0xC0 | t >> 8, t & 255]) + (len(data) - 1).to_bytes(2, "big") + data
-    with open(at("y"), "rb") as file:
-        if file.read() != b"".join(packet(t, data) for t, data in enumerate(sent)):
-            return "its store has other packets"
+    if files.get("y") != b"".join(packet(t, data) for t, data in enumerate(sent)):
+        return "its store has other packets"
     arrived = b""
     for t, (_, fate, _) in enumerate(steps):
         data = bytearray(sent[t])
         if fate == 3:
             data[t * 7 % len(data)] ^= 1 << t % 8
         arrived += packet(t, bytes(data)) * (1 if fate == 3 else fate)
-    with open(at("y"), "wb") as file:
-        file.write(arrived)
+    files.put("y", arrived)
     subprocess.run([PROGRAM, "restore", *f"in=y out=z report=r bits={bits} apid=100".split()], cwd=room, check=True, timeout=60)
     content = b"".join(bytes.fromhex(line.split(" content ")[1]) for line in printed if " content " in line)
     counts = next(line for line in printed if line.startswith("counts")).split()
-    with open(at("z"), "rb") as out, open(at("r"), encoding="ascii") as report:
-        if out.read() != content:
-            return "it restores something else"
-        end = report.read().splitlines()[-1]
+    if files.get("z") != content:
+        return "it restores something else"
+    end = files.get("r").decode().splitlines()[-1]
     return None if end == f"end,{counts[3]},{counts[5]},{counts[7]}" else f"its report ends with {end}"
 
 

@@ -2,6 +2,7 @@
 pickled; what is no state is refused; those of earlier releases (tests/states) go on; and Space Packets of many APIDs in any pieces."""
 
 import os
+import pathlib
 import pickle
 import random
 import zlib
@@ -81,8 +82,7 @@ def stored():
     names = sorted(os.listdir(STORED))
     for name in names:
         kind, bits = name.removesuffix(".state").split("-")
-        with open(os.path.join(STORED, name), "rb") as file:
-            state = file.read()
+        state = pathlib.Path(STORED, name).read_bytes()
         sender, receiver = Sender(int(bits)), Receiver(int(bits))
         inputs = list(contents(random.Random(int(bits)), int(bits), 40))
         for number, content in enumerate(inputs):

@@ -99,7 +99,7 @@ class Function:
         for number, piece in enumerate(self.pieces):
             earlier = [it for it in piece.whence if it < number and (it == 0 or self.pieces[it].above >= 0)]
             if earlier:
-                self.begin(number, piece, earlier)
+                self.begin(piece, earlier)
             if earlier or number == 0:
                 self.run(piece)
 
@@ -112,7 +112,7 @@ class Function:
         """The sum of a variable: a number, and what is not known, each with how often it is added."""
         return piece.values.setdefault(name, self.unknown())
 
-    def begin(self, number, piece, earlier):
+    def begin(self, piece, earlier):
         """Finds the piece above one, and keeps what is known at its end, but for what is set on a way from there."""
         one = earlier[0]
         for other in earlier[1:]:

@@ -9,6 +9,7 @@ So the files are compiled another way: compared (tests/test_one_file.py), not pr
 """
 
 import os
+import pathlib
 import re
 import shutil
 import subprocess
@@ -21,6 +22,7 @@ TOP = os.path.dirname(os.path.dirname(HERE))
 sys.path.insert(0, f"{TOP}/library")
 import left_out
 import module
+import retarget
 import translate
 
 SENDER = ["pocket_sender_open", "pocket_sender_reset", "pocket_send", "pocket_sent"]
@@ -52,21 +54,18 @@ LOUD = """#if defined(__clang__)
 #endif"""
 
 
-def text_of(name):
-    with open(os.path.join(HERE, name), encoding="utf-8") as file:
-        return file.read()
+def text_of(name, folder=HERE):
+    return pathlib.Path(folder, name).read_text("utf-8")
 
 
 def checked():
     """The checks of null of the library, and those of the calls that the file alone has."""
-    with open(f"{TOP}/library/checked.c", encoding="utf-8") as file:
-        text = file.read().replace('#define POCKET_PROVED_NAMES\n#include "pocket.h"\n', "")
+    text = text_of("library/checked.c", TOP).replace('#define POCKET_PROVED_NAMES\n#include "pocket.h"\n', "")
     return f"{text}\n{text_of('null_checks.c')}"
 
 
 def version():
-    with open(f"{TOP}/crates/pocket/src/main.rt", encoding="utf-8") as file:
-        return re.search(r'^const VERSION: &str = "pocket (.*)";$', file.read(), re.M)[1]
+    return re.search(r'^const VERSION: &str = "pocket (.*)";$', text_of("crates/pocket/src/main.rt", TOP), re.M)[1]
 
 
 def module_of(kept, exports, kit, **how):
@@ -78,8 +77,7 @@ def module_of(kept, exports, kit, **how):
         wasm, made = os.path.join(folder, "pocket.wasm"), os.path.join(folder, "pocket.c")
         module.make(kept, wasm, kit, exports, for_c=True, **how)
         subprocess.run([tool, wasm, "-n", "pocket", "-o", made], check=True)
-        with open(made, encoding="utf-8") as text:
-            return text.read()
+        return text_of(made)
 
 
 def constants(code):
@@ -113,8 +111,7 @@ def quiet(text):
 
 def check_stack(deepest):
     """Ends if pocket.h tells a stack that is too small, or a quarter of a kilobyte too large."""
-    with open(f"{TOP}/library/pocket.h", encoding="utf-8") as file:
-        told = int(re.search(r"^#define POCKET_STACK_BYTES (\d+)u$", file.read(), re.M)[1])
+    told = int(re.search(r"^#define POCKET_STACK_BYTES (\d+)u$", text_of("library/pocket.h", TOP), re.M)[1])
     if not deepest <= told < deepest + 256:
         sys.exit(f"library/pocket.h: POCKET_STACK_BYTES has to be {-(-deepest // 64) * 64}u: the deepest stack is {deepest} bytes")
 
@@ -135,8 +132,7 @@ def calls(kept, kit):
 
 def keys_of_verbs():
     """For each verb its keys in order, each with the numbers that it takes, or nothing (crates/pocket_cmd/src/verbs.rt)."""
-    with open(f"{TOP}/crates/pocket_cmd/src/verbs.rt", encoding="utf-8") as file:
-        rows = dict(re.findall(r"Verb::(\w+) => &\[(.*?)\],", file.read(), re.S))
+    rows = dict(re.findall(r"Verb::(\w+) => &\[(.*?)\],", text_of("crates/pocket_cmd/src/verbs.rt", TOP), re.S))
     bounds = lambda kind: tuple(it.replace("_", "").replace("u32::MAX", str(2**32 - 1)) for it in re.findall(r"[\w:]+", kind)[1:]) if kind.startswith("Number") else ()
     return {verb.lower(): [(key, bounds(kind)) for key, kind in re.findall(r'(?:Needed|Optional)\("(\w+)", (.*)\),', text)] for verb, text in rows.items()}
 
@@ -151,8 +147,7 @@ def helps():
     """What the program's help prints, as arrays of lines: all of it, and that of each verb (crates/pocket/src/verb_help.rt)."""
     source = {}
     for name in ("main", "verb_help"):
-        with open(f"{TOP}/crates/pocket/src/{name}.rt", encoding="utf-8") as file:
-            source.update(re.findall(r'^const ([A-Z]+): &str = "\\\n(.*?)";$', file.read(), re.M | re.S))
+        source.update(re.findall(r'^const ([A-Z]+): &str = "\\\n(.*?)";$', text_of(f"crates/pocket/src/{name}.rt", TOP), re.M | re.S))
     lines, keys = source["HELP"].split("\n"), keys_of_verbs()
     texts = {"": lines}
     for number, line in enumerate(lines):
@@ -178,16 +173,8 @@ def program(kept, kit):
     return "\n".join([*before, quiet(text), helps(), text_of("files.c"), text_of("program.c")])
 
 
-def write(path, text):
-    with open(path, "w", encoding="utf-8", newline="\n") as file:
-        file.write(text)
-
-
 def main():
-    rattle = shutil.which("rattle")
-    if not rattle or len(sys.argv) != 3:
-        sys.exit(__doc__ if rattle else "the toolchain's rattle is not on the path")
-    kit = os.path.dirname(os.path.dirname(os.path.realpath(rattle)))
+    kit = retarget.kit_of(len(sys.argv) == 3, __doc__)
     kept, folder = sys.argv[1:]
     os.makedirs(folder, exist_ok=True)
     try:
@@ -195,7 +182,7 @@ def main():
     except translate.OtherForm as other:
         sys.exit(f"library/one_file/make.py: wasm2c wrote what is not known here: {other}")
     for name, text in made.items():
-        write(os.path.join(folder, name), text)
+        pathlib.Path(folder, name).write_text(text, "utf-8")
     shutil.copyfile(f"{TOP}/library/pocket.h", os.path.join(folder, "pocket.h"))
     return 0
 

@@ -2,13 +2,12 @@
  * both, and states. Each call with right arguments is done; as long as each packet arrives as it was sent, its content is its input; and a
  * state that is saved and loaded is saved as the same bytes. Its word is how many streams there are. */
 #include "pocket.h"
-#include <stdio.h>
+#include "check.h"
 #include <stdlib.h>
 #include <string.h>
 
 enum { MOST = 600, CALLS = 60, BYTES = POCKET_INPUT_BYTES(MOST), ROOM = POCKET_PACKET_BYTES(MOST), STATE = POCKET_SENDER_STATE_BYTES(MOST) };
 static const uint32_t bits_tried[] = { 1, 7, 8, 16, 32, 47, 56, 64, 65, 100, 200, 257, MOST };
-static unsigned long passed, failed;
 static uint64_t seed = 88172645463325252u;
 
 /* Both ends, the number of the next packet, and whether all packets arrived as they were sent since both began. */
@@ -19,12 +18,7 @@ static struct {
     uint8_t input[BYTES];
 } link;
 
-static void check(bool held, const char *what)
-{
-    passed += held;
-    if (!held && failed++ < 10)
-        printf("both ends, %u bits: %s\n", (unsigned)link.bits, what);
-}
+#define check(held, what) check(held, what, link.bits)
 
 static uint32_t drawn(uint32_t below)
 {
@@ -138,6 +132,5 @@ int main(int words, char **word)
             calls();
         check(pocket_close(&link.sender) == POCKET_DONE && pocket_close(&link.receiver) == POCKET_DONE, "the ends");
     }
-    printf("%lu passed, %lu failed\n", passed, failed);
-    return failed != 0;
+    return counted();
 }

@@ -13,8 +13,8 @@
  *   save                         prints the states of the sender and the receiver
  *   resume SENT SENDER RECEIVER  loads states, after so many packets were sent
  */
-#include <stdbool.h>
-#include <stdint.h>
+#define POCKET_PROVED_NAMES
+#include "../../library/pocket.h"
 #ifdef POCKET_BARE
 #include "bare.h"
 #else
@@ -23,43 +23,13 @@
 #include <string.h>
 #endif
 
-struct handle { void *at; size_t state; };
-struct finding { uint64_t number, first_lost, lost; uint32_t kind, value; bool mask_alone; };
-struct counts { uint64_t packets, written, repeats, listed; };
-
-uint32_t pocket_sender_open(struct handle *, uint32_t bits, const uint8_t *mask, size_t mask_len);
-uint32_t pocket_sender_reset(struct handle *, const uint8_t *mask, size_t mask_len);
-uint32_t pocket_send(struct handle *, const uint8_t *input, size_t input_len, bool new_mask, bool send_mask, bool whole, uint8_t robust,
-                     uint8_t *out, size_t room, size_t *len, uint8_t *level);
-uint32_t pocket_receiver_open(struct handle *, uint32_t bits);
-uint32_t pocket_receiver_reset(struct handle *);
-uint32_t pocket_receive(struct handle *, uint16_t count, const uint8_t *bytes, size_t len, uint8_t *out, size_t room, struct finding *);
-uint32_t pocket_counts(struct handle *, struct counts *);
-uint32_t pocket_sent(struct handle *, uint64_t *packets);
-uint32_t pocket_bits(struct handle *, uint32_t *bits);
-uint32_t pocket_save(struct handle *, uint8_t *state, size_t room, size_t *len);
-uint32_t pocket_load(struct handle *, const uint8_t *state, size_t len);
-uint32_t pocket_close(struct handle *);
-#ifdef POCKET_DESK
-uint32_t pocket_desk_open(struct handle *);
-uint32_t pocket_put(struct handle *, const uint8_t *name, size_t name_len, const uint8_t *bytes, size_t len);
-uint32_t pocket_word(struct handle *, const uint8_t *text, size_t len);
-uint32_t pocket_run(struct handle *, uint8_t *text, size_t room, size_t *len, uint8_t *exit);
-uint32_t pocket_get(struct handle *, const uint8_t *name, size_t name_len, uint8_t *out, size_t room, size_t *len);
-#endif
-
-#ifdef POCKET_ONE_FILE
-uint32_t pocket_sender_open_in(struct handle *, void *memory, size_t size, uint32_t bits, const uint8_t *mask, size_t mask_len);
-uint32_t pocket_receiver_open_in(struct handle *, void *memory, size_t size, uint32_t bits);
-#endif
-
 #ifndef DRIVER_ROOM
 #define DRIVER_ROOM (1 << 20)
 #endif
 enum { ROOM = DRIVER_ROOM };
 static char line[2 * ROOM + 1000];
 static uint8_t in[ROOM + 1], data[ROOM], content[ROOM];
-static struct handle sender, receiver;
+static pocket_handle sender, receiver;
 static uint32_t bits;
 static unsigned sent;
 
@@ -138,7 +108,7 @@ static void reset_both(const char *mask) {
 }
 
 static void receive(unsigned count, const uint8_t *bytes, size_t len) {
-    struct finding f = { 0 };
+    pocket_finding f = { 0 };
     memset(content, 0xEE, (bits + 7) / 8);
     uint32_t status = pocket_receive(&receiver, (uint16_t)count, bytes, len, content, sizeof content, &f);
     printf("received %u", status);
@@ -173,7 +143,7 @@ static void send_one(unsigned flags, unsigned robust, unsigned on, const char *i
 }
 
 static void close_both(void) {
-    struct counts c = { 0 };
+    pocket_tally c = { 0 };
     uint64_t packets = 0;
     uint32_t one = 0, other = 0, status;
     printf("counts %u", pocket_counts(&receiver, &c));
@@ -191,7 +161,7 @@ static void close_both(void) {
 }
 
 #ifdef POCKET_DESK
-static struct handle desk;
+static pocket_handle desk;
 
 static void run(void) {
     uint8_t text[128], exit = 0;

@@ -1,17 +1,9 @@
 /* The helpers of library/examples/leon3 for numbers of 64 bits, under names of their own, beside what C says of each. */
 #define HELPER(name) own_##name
 #include "../../library/examples/leon3/helpers.c"
-#include <stdio.h>
+#include "check.h"
 
 enum { CASES = 200000 };
-static unsigned long passed, failed;
-
-static void check(int held, const char *what, uint64_t value)
-{
-    passed += held != 0;
-    if (!held && failed++ < 10)
-        printf("helpers: %s of %llx\n", what, (unsigned long long)value);
-}
 
 /* What C says, bit by bit. */
 static int zeros(uint64_t value, int bits, int from_above)
@@ -62,6 +54,5 @@ int main(void)
         try_value(value);
         try_value(value >> number % 64);
     }
-    printf("%lu passed, %lu failed\n", passed, failed);
-    return failed != 0;
+    return counted();
 }

@@ -1,7 +1,7 @@
 /* The one file's own: memory of the caller for every number of bits, the depth of the stack, and a block that was damaged. It takes
  * the file in whole, so that it sees what lies in a block. Its word, `all`, or `some` for valgrind, says for how many numbers of bits. */
 #include "pocket.c"
-#include <stdio.h>
+#include "check.h"
 #include <stdlib.h>
 
 /* The names of the header are those of its checks. */
@@ -14,17 +14,9 @@
 #define pocket_close pocket_checked_close
 
 enum { MARK = 0xA5, BITS = 100, PAINT = 0xC3 };
-static unsigned long passed, failed;
 static uint8_t sender_memory[POCKET_SENDER_BYTES(POCKET_MOST_BITS) + 16], receiver_memory[POCKET_RECEIVER_BYTES(POCKET_MOST_BITS) + 16];
 static uint8_t data[POCKET_MOST_DATA], content[POCKET_INPUT_BYTES(POCKET_MOST_BITS)];
 static uint8_t input[POCKET_INPUT_BYTES(POCKET_MOST_BITS)], state[POCKET_SENDER_STATE_BYTES(POCKET_MOST_BITS)];
-
-static void check(bool held, const char *what, unsigned long bits)
-{
-    passed += held;
-    if (!held && failed++ < 10)
-        printf("one file, %lu bits: %s\n", bits, what);
-}
 
 /* A sender and a receiver of so many bits are opened in as much memory as is told, no byte less, and leave all other bytes. */
 static void opens(uint32_t bits)
@@ -169,6 +161,5 @@ int main(int words, char **word)
     breaks(OUTSIDE);
     breaks(BASE - 16);
     printf("stack %u deepest, of a send or a receive %u, of an opening %u\n", (unsigned)DEEPEST, (unsigned)found, (unsigned)one);
-    printf("%lu passed, %lu failed\n", passed, failed);
-    return failed != 0;
+    return counted();
 }

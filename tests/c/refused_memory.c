@@ -4,7 +4,7 @@
  * Linked with --wrap=malloc,--wrap=realloc,--wrap=free. The numbers of bits are its words; it prints the bytes of each. With POCKET_NO_DESK
  * it takes no desk, as the one file has none. */
 #include "pocket.h"
-#include <stdio.h>
+#include "check.h"
 #include <stdlib.h>
 #include <string.h>
 
@@ -42,13 +42,7 @@ void __wrap_free(void *at)
 }
 
 static uint8_t input[POCKET_INPUT_BYTES(POCKET_MOST_BITS)], data[POCKET_PACKET_BYTES(POCKET_MOST_BITS)], content[sizeof input];
-static unsigned long passed, failed;
-
-static void check(bool right)
-{
-    passed += right;
-    failed += !right;
-}
+#define check(right) check(right, "refused memory", __LINE__)
 
 static pocket_status opened(pocket_handle *handle, uint32_t bits, bool sends)
 {
@@ -226,6 +220,5 @@ int main(int count, char **words)
 #else
     at_desk();
 #endif
-    printf("%lu passed, %lu failed\n", passed, failed);
-    return failed != 0;
+    return counted();
 }

@@ -1,23 +1,14 @@
 /* What pocket.h says of numbers, counts and restarts, of versions, texts and headers: each sentence is tried, from C. With
  * POCKET_NO_DESK those of a desk are left out, as the one file has none. */
 #include "pocket.h"
-#include <stdio.h>
+#include "check.h"
 #include <string.h>
 
 enum { BITS = 64, BYTES = BITS / 8, ROOM = POCKET_PACKET_BYTES(BITS), MANY = 100, APID = 100 };
 
-static unsigned long passed, failed;
-static uint32_t seed = 1;
+#define check(held, what) check(held, what, __LINE__)
 
-static void check(bool held, const char *what)
-{
-    if (held)
-        passed += 1;
-    else {
-        failed += 1;
-        printf("sentences: %s\n", what);
-    }
-}
+static uint32_t seed = 1;
 
 static uint32_t drawn(uint32_t below)
 {
@@ -303,6 +294,5 @@ int main(void)
     out_of_order();
     letters();
 #endif
-    printf("%lu passed, %lu failed\n", passed, failed);
-    return failed != 0;
+    return counted();
 }

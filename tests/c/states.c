@@ -2,22 +2,15 @@
  * the right sum. A refusal changes nothing; what is taken is saved as the same bytes, and works. Its word is how many are made. With POCKET_FUZZED
  * libFuzzer makes what stands between the head and the sum. */
 #include "pocket.h"
-#include <stdio.h>
+#include "check.h"
 #include <stdlib.h>
 #include <string.h>
 
 enum { MOST = 200, CALLS = 100, HEAD = 10, MOST_BYTES = POCKET_INPUT_BYTES(MOST), ROOM = POCKET_SENDER_STATE_BYTES(MOST) };
-static unsigned long passed, failed, taken;
+static unsigned long taken;
 static uint64_t seed = 88172645463325252u;
 static uint8_t before[ROOM], after[ROOM], state[ROOM + 16];
 static const uint32_t bits_tried[] = { 1, 7, 8, 13, 32, 47, 56, 64, 100, MOST };
-
-static void check(bool held, const char *what, unsigned long number)
-{
-    passed += held;
-    if (!held && failed++ < 10)
-        printf("states: %s (%lu)\n", what, number);
-}
 
 static uint64_t drawn(uint64_t below)
 {
@@ -237,8 +230,8 @@ int main(int words, char **word)
         tries(at % 2 ? POCKET_OF_SENDER : POCKET_OF_RECEIVER, bits_tried[at / 2], count / (2 * sizes) + 1);
     check(taken > count / 100, "few made states are taken", taken);
     check(pocket_state_bytes(0, 1) == 0 && pocket_state_bytes(8, 0) == 0 && pocket_state_bytes(8, 3) == 0 && pocket_state_bytes(POCKET_MOST_BITS + 1, 2) == 0, "no state", 0);
-    printf("%lu taken\n%lu passed, %lu failed\n", taken, passed, failed);
-    return failed != 0;
+    printf("%lu taken\n", taken);
+    return counted();
 }
 #else
 int LLVMFuzzerTestOneInput(const uint8_t *bytes, size_t length)

@@ -1,21 +1,11 @@
 /* Worked packets, each wrong argument with nothing changed after it, and no memory taken after opening, from C. With POCKET_NO_DESK it
  * takes no desk, as the one file has none. */
 #include "pocket.h"
-#include <stdio.h>
+#include "check.h"
 #include <stdlib.h>
 #include <string.h>
 
-static unsigned long passed, failed;
-
-static void check(bool held, const char *what)
-{
-    if (held)
-        passed += 1;
-    else {
-        failed += 1;
-        printf("calls from C: %s\n", what);
-    }
-}
+#define check(held, what) check(held, what, __LINE__)
 
 static const uint8_t inputs[4] = {0xB0, 0xB1, 0xB1, 0xB3};
 static const struct {
@@ -385,6 +375,5 @@ int main(void)
 #ifndef POCKET_NO_DESK
     desk();
 #endif
-    printf("%lu passed, %lu failed\n", passed, failed);
-    return failed != 0;
+    return counted();
 }

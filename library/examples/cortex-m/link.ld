@@ -11,6 +11,6 @@ SECTIONS
     data_from = .;
     .data : { data_begins = .; *(.data*) . = ALIGN(8); data_ends = .; } > ram AT > flash
     .bss (NOLOAD) : { bss_begins = .; *(.bss*) *(COMMON) . = ALIGN(8); bss_ends = .; } > ram
-    end = .;
     stack_top = ORIGIN(ram) + LENGTH(ram);
+    loaded = 0x21000000;
 }

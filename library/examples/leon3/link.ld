@@ -7,5 +7,6 @@ SECTIONS
     .data : { *(.data*) *(.got*) . = ALIGN(8); }
     .bss (NOLOAD) : { bss_begins = .; *(.bss*) *(COMMON) . = ALIGN(8); bss_ends = .; }
     stack_top = 0x40800000;
+    loaded = 0x41FFFFFC;
     /DISCARD/ : { *(.comment) *(.note*) *(.eh_frame*) *(.interp) *(.dyn*) *(.hash) *(.gnu*) *(.rela*) }
 }

@@ -7,5 +7,6 @@ SECTIONS
     .data : { *(.data*) *(.sdata*) . = ALIGN(8); }
     .bss (NOLOAD) : { bss_begins = .; *(.bss*) *(.sbss*) *(COMMON) . = ALIGN(8); bss_ends = .; }
     stack_top = 0x80800000;
+    loaded = 0x81FFFFFC;
     /DISCARD/ : { *(.comment) *(.note*) *(.eh_frame*) *(.riscv.attributes) }
 }
