@@ -29,7 +29,7 @@ KNOWN = [(7, 7, word << 32 | word) for word in (0xCCCCCCCC, 0x31313531, 0x555555
 BARE = ["-Os", "-ffreestanding", "-DPOCKET_NO_HEAP", "-DPOCKET_NO_STATES", "-static"]
 # A processor without an operating system: its compiler and flags, the files of its example, and what runs it.
 MACHINES = {
-    "Cortex-M3": (["arm-none-eabi-gcc", "-mcpu=cortex-m3", "-mthumb", *BARE, "-nostartfiles"], "cortex-m", ["start.c", "semihosting.c"],
+    "Cortex-M3": (["arm-none-eabi-gcc", "-mcpu=cortex-m3", "-mthumb", *BARE, "-nostartfiles"], "cortex-m", ["start.c", "board.c"],
                   "qemu-system-arm -M mps2-an385 -display none -serial none -monitor none -semihosting-config enable=on,target=native -kernel".split()),
     "LEON3": (["sparc64-linux-gnu-gcc", "-m32", "-mcpu=leon3", *BARE, "-fno-pic", "-fno-pie", "-no-pie", "-z", "noexecstack", "-DPOCKET_NO_LIBC", "-nostdlib"],
               "leon3", ["start.S", "board.c", "helpers.c"], "qemu-system-sparc -M leon3_generic -display none -monitor none -serial null -kernel".split()),
@@ -81,7 +81,7 @@ class Machine:
                 told = ", ".join(f"{{ {flags}, {robustness}, 0x{turned:X}u }}" for flags, robustness, turned in steps)
                 file.write(f"{{ {bits}, {PACKETS}, {len(steps)}, {{ {told} }} }},\n")
         at, made = f"{EXAMPLES}/{self.example}", f"{self.folder}/{self.example}.elf"
-        beside = ["-I", self.dist, "-I", self.folder, "-I", at, "-T", f"{at}/link.ld", *(f"{at}/{it}" for it in self.files)]
+        beside = ["-I", self.dist, "-I", self.folder, "-I", f"{EXAMPLES}/leon3", "-T", f"{at}/link.ld", *(f"{at}/{it}" for it in self.files)]
         run = lambda *words: subprocess.run(words, check=True, capture_output=True, text=True).stderr
         run(*self.compiler, '-DTRIALS="trials.h"', *beside, "-o", made, f"{HERE}/search.c", f"{self.dist}/pocket.c")
         told = run(*self.machine, made, "-plugin", f"{self.folder}/instructions.so")
