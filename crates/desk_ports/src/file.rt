@@ -20,8 +20,8 @@ use std::io;
 
 /// The desk over real files. The name `-` is standard input for an inlet and standard output for an outlet.
 ///
-/// It tells no content, since no clause can say what a file holds. Each error of the system is a fault,
-/// and so is a write that takes nothing. Each read is one call of the system. What is written is gathered, up to
+/// It tells no content, since no clause can say what a file holds. Each error of the system is a fault, but of a
+/// write that was interrupted, which goes on; and so is a write that takes nothing. Each read is one call of the system. What is written is gathered, up to
 /// 131,072 bytes for each outlet, and handed to the system when it no longer fits, at `finish` and by `hand_over`; and
 /// before each read of an inlet that is no regular file, since it may wait for bytes that are still to come. A failure
 /// there is answered by the next write, `finish` or `hand_over`.
@@ -80,13 +80,13 @@ impl<'a> FileDesk<'a> {
         }
     }
 
-    /// The error of the system at the last reading that failed, and its inlet.
+    /// The error of the system at the last reading that failed, and its inlet. No clause speaks of it.
     pub fn read_fault(&self) -> Option<&(Inlet, io::Error)> {
         self.read_faults.last()
     }
 
-    /// The error of the system at the last writing that failed, and its outlet: what was opened, written, finished or named
-    /// there.
+    /// The error at the last writing that failed, of the system or the desk's own reason, also one that no call has answered
+    /// yet, and its outlet: what was opened, written, finished or named there. No clause speaks of it.
     pub fn write_fault(&self) -> Option<&(Outlet, io::Error)> {
         self.write_faults.last()
     }

@@ -16,7 +16,7 @@ pub struct WriteFaults {
     last: Option<(Outlet, io::Error)>,
 }
 
-/// The answer of a call at an outlet, which an error has with it.
+/// The answer of a call of the system, with the outlet at which it was made if it is an error.
 pub fn at(outlet: Outlet, given: io::Result<()>) -> Result<(), (Outlet, io::Error)>
     ensures given { OnOk given (result ≡ Ok tt) }
     ensures failed { OnErr given (IsErr result) }

@@ -26,7 +26,7 @@ pub fn sure_packets()
 {}
 
 /// A forecast holds for each history with the flags and the required robustness that were foreseen: what is sure is
-/// written, and it is one up to the last arrival. If each level is the required robustness, what is written is sure.
+/// written, and it is one up to the last arrival. If each later level is the required robustness, what is written is sure.
 pub fn forecasts_hold()
     ensures written { (p : Prospect) (h : History) (t : ℕ) → IsForeseen p h → t < length h.steps
         → IsSure p t → WrittenAt h p.copies t }

@@ -26,7 +26,7 @@ pub fn take_counted(bytes: &[u8]) -> Option<(u64, u8, &[u8])>
     Some((taken, *again, rest))
 }
 
-/// What follows the four vectors of `f` places that the bytes begin with. None: they begin with fewer.
+/// What follows the four vectors of `f` places that the bytes begin with. None: they don't begin with four such vectors.
 pub fn pass_four(bytes: &[u8], f: u32) -> Option<&[u8]>
     requires valid { IsPlaces f }
     ensures some { IfSome result (λ rest. (previous build mask change : List Bool)

@@ -22,7 +22,7 @@ IsSenderState f e = IsEncoderState f e
 abbrev pub sender_state_room : ℕ → ℕ
 sender_state_room f = frame_bytes + encoder_room f
 
--- the bytes are the state of some sender with inputs of f places
+-- the bytes are the state of some value within the bounds of a sender with inputs of f places
 pub record AreOfSender (f : ℕ) (state : List ℕ) : Type 0 where
   pub sender : EncoderState
   pub valid : IsSenderState f sender
@@ -44,7 +44,7 @@ IsReceiverState f r = IsReckoning f r
 abbrev pub receiver_state_room : ℕ → ℕ
 receiver_state_room f = frame_bytes + reckoning_room f
 
--- the bytes are the state of some receiver with contents of f places
+-- the bytes are the state of some value within the bounds of a receiver with contents of f places
 pub record AreOfReceiver (f : ℕ) (state : List ℕ) : Type 0 where
   pub receiver : Reckoning
   pub valid : IsReceiverState f receiver

@@ -124,7 +124,8 @@ pub fn senders_are_their_states()
     ensures taken { (f : ℕ) (e : EncoderState) → IsSenderState f e → AreOfSender f (sender_state e) }
 {}
 
-/// A sender that took up a state goes on as the saved one would: it stands for each history for which that one stood.
+/// A sender that took up a state goes on as the saved one would: it holds the same (`senders_are_their_states`), and stands for
+/// each history for which that one stood.
 pub fn loaded_senders_go_on()
     ensures { (f : ℕ) (saved loaded : EncoderState) (h : History) → IsSenderState f saved
         → IsSenderState f loaded → sender_state loaded ≡ sender_state saved

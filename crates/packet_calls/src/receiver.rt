@@ -136,7 +136,7 @@ impl Receiver {
 
     /// Becomes the receiver with this state, in the memory that it has.
     pub fn load(&mut self, state: &[u8]) -> Result<(), LoadFault>
-        // It is done exactly if the bytes are the state of some receiver with contents of as many places.
+        // It is done exactly if the bytes are the state of some value within a receiver's bounds, with as many places.
         ensures exact { (result ≡ Ok tt) ↔ AreOfReceiver self.old.reception.decoder.places state.now }
         ensures loaded { OnOk result (receiver_state self.new ≡ state.now) }
         ensures same { (r : Reckoning) → IsReceiverState self.old.reception.decoder.places r

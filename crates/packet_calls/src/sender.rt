@@ -200,7 +200,7 @@ impl Sender {
 
     /// Becomes the sender with this state, in the memory that it has.
     pub fn load(&mut self, state: &[u8]) -> Result<(), LoadFault>
-        // It is done exactly if the bytes are the state of some sender with inputs of as many places.
+        // It is done exactly if the bytes are the state of some value within a sender's bounds, with as many places.
         ensures exact { (result ≡ Ok tt) ↔ AreOfSender (length self.old.encoder.masks.mask) state.now }
         ensures loaded { OnOk result (sender_state self.new.encoder ≡ state.now) }
         ensures same { (e : EncoderState) → IsSenderState (length self.old.encoder.masks.mask) e

@@ -26,7 +26,7 @@ impl Held {
         Held { value: 0, width: 0 }
     }
 
-    /// These bits and the word of a count. Many are 1, whose word is a 0.
+    /// These bits and the word of a count. Most counts are 1, with a 0 for a word.
     #[inline(always)]
     pub fn with_count(self, a: u32) -> Held
         requires valid { IsPlaces a }

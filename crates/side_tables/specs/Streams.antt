@@ -38,7 +38,11 @@ AreIndexesOf rows indexes = (apid : ℕ) → slice_index_or indexes apid None �
 -- APID, bits: a stream
 abbrev pub stream_row_of : List (List ℕ) → Option StreamRow
 stream_row_of fields =
-    if length fields == 2 then (field_number fields 0 0 2046 >>= λ apid. field_number fields 1 1 49152 >>= λ bits. Some (record { apid = apid; bits = bits })) else None
+    if length fields == 2 then (do
+      apid ← field_number fields 0 0 2046
+      bits ← field_number fields 1 1 49152
+      Some (record { apid = apid; bits = bits }))
+    else None
 
 -- a stream after others: these are fewer than 64, and none of them has its APID
 abbrev pub stream_row_after : Grammar StreamRow
