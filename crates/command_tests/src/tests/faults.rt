@@ -16,29 +16,18 @@ const COMPRESS: &str = "compress in=a out=b bits=8 apid=100 robust=1";
 
 const BY_PLAN: &str = "compress in=a out=b bits=8 apid=100 robust=1 plan=s";
 
-/// How a run ends: how many bytes of the output and of the report stand when a reading or a writing failed.
-#[derive(Clone, Copy)]
-pub enum End {
-    Done,
-    Unread(usize, usize),
-    Unwritten(usize, usize),
-    /// Both outputs stand, and the first alone is kept.
-    HalfKept,
-}
-
-/// The calls that fail, and how the run then ends.
-pub type Row = (&'static [(Call, u32)], End);
-
 /// What a verb is given, what it writes if no call fails, and rows of calls that do, at a desk that moves whole pieces and
-/// at one that moves single bytes.
+/// at one that moves single bytes. Between two rows is a bar. A row has the calls that fail, each by its name and its number,
+/// a colon, and how the run then ends: `done`; `half`, if both outputs stand and the first alone is kept; or `unread` or
+/// `unwritten`, with how many bytes of the output and of the report stand when a reading or a writing failed.
 pub struct Faults {
     pub words: &'static str,
     pub input: Option<&'static [u8]>,
     pub side: Option<&'static [u8]>,
     pub output: &'static [u8],
     pub report: &'static [u8],
-    pub whole: &'static [Row],
-    pub single: &'static [Row],
+    pub whole: &'static str,
+    pub single: &'static str,
 }
 
 /// Of the worked restore.
@@ -49,35 +38,13 @@ static RESTORES: [Faults; 1] = [Faults {
     output: RESTORED,
     report: REPORT,
     // One reading has the whole input, and the next one meets its end.
-    whole: &[
-        (&[(Call::Read, 2)], End::Unread(3, 34)),
-        (&[(Call::Read, 3)], End::Done),
-        (&[(Call::Write, 1)], End::Unwritten(0, 0)),
-        (&[(Call::Write, 2)], End::Unwritten(0, 23)),
-        (&[(Call::Write, 3)], End::Unwritten(1, 23)),
-        (&[(Call::Write, 4)], End::Unwritten(2, 23)),
-        (&[(Call::Write, 5)], End::Unwritten(2, 34)),
-        (&[(Call::Write, 6)], End::Unwritten(3, 34)),
-        (&[(Call::Write, 7)], End::Done),
-    ],
+    whole: "read 2: unread 3 34|read 3: done|write 1: unwritten 0 0|write 2: unwritten 0 23|write 3: unwritten 1 23|\
+        write 4: unwritten 2 23|write 5: unwritten 2 34|write 6: unwritten 3 34|write 7: done",
     // The packets end at the bytes 10, 20 and 29.
-    single: &[
-        (&[(Call::OpenIn, 1), (Call::OpenOut, 1)], End::Unread(0, 0)),
-        (&[(Call::OpenIn, 2)], End::Done),
-        (&[(Call::OpenOut, 1)], End::Unwritten(0, 0)),
-        (&[(Call::OpenOut, 2)], End::Unwritten(0, 0)),
-        (&[(Call::OpenOut, 3)], End::Done),
-        (&[(Call::Read, 1)], End::Unread(0, 23)),
-        (&[(Call::Read, 10)], End::Unread(0, 23)),
-        (&[(Call::Read, 11)], End::Unread(1, 23)),
-        (&[(Call::Read, 20)], End::Unread(1, 23)),
-        (&[(Call::Read, 21)], End::Unread(2, 23)),
-        (&[(Call::Read, 30)], End::Unread(3, 34)),
-        (&[(Call::Read, 31)], End::Done),
-        (&[(Call::Finish, 1)], End::Unwritten(3, 44)),
-        (&[(Call::Finish, 2)], End::HalfKept),
-        (&[(Call::Finish, 3)], End::Done),
-    ],
+    single: "open_in 1 open_out 1: unread 0 0|open_in 2: done|open_out 1: unwritten 0 0|open_out 2: unwritten 0 0|\
+        open_out 3: done|read 1: unread 0 23|read 10: unread 0 23|read 11: unread 1 23|read 20: unread 1 23|\
+        read 21: unread 2 23|read 30: unread 3 34|read 31: done|finish 1: unwritten 3 44|finish 2: half|\
+        finish 3: done",
 }];
 
 static OTHERS: [Faults; 5] = [
@@ -88,21 +55,10 @@ static OTHERS: [Faults; 5] = [
         output: STORE,
         report: &[],
         // Each packet is written at once; the first has ten bytes.
-        whole: &[
-            (&[(Call::OpenIn, 1), (Call::OpenOut, 1)], End::Unread(0, 0)),
-            (&[(Call::OpenIn, 2)], End::Done),
-            (&[(Call::OpenOut, 1)], End::Unwritten(0, 0)),
-            (&[(Call::OpenOut, 2)], End::Done),
-            (&[(Call::Read, 1)], End::Unread(0, 0)),
-            (&[(Call::Read, 2)], End::Unread(37, 0)),
-            (&[(Call::Read, 3)], End::Done),
-            (&[(Call::Write, 1)], End::Unwritten(0, 0)),
-            (&[(Call::Write, 2)], End::Unwritten(10, 0)),
-            (&[(Call::Write, 5)], End::Done),
-            (&[(Call::Finish, 1)], End::Unwritten(37, 0)),
-            (&[(Call::Finish, 2)], End::Done),
-        ],
-        single: &[],
+        whole: "open_in 1 open_out 1: unread 0 0|open_in 2: done|open_out 1: unwritten 0 0|open_out 2: done|\
+            read 1: unread 0 0|read 2: unread 37 0|read 3: done|write 1: unwritten 0 0|write 2: unwritten 10 0|\
+            write 5: done|finish 1: unwritten 37 0|finish 2: done",
+        single: "",
     },
     Faults {
         words: BY_PLAN,
@@ -111,13 +67,9 @@ static OTHERS: [Faults; 5] = [
         output: STORE,
         report: &[],
         // A schedule is opened and read before anything else is opened.
-        whole: &[
-            (&[(Call::OpenIn, 1), (Call::OpenOut, 1)], End::Unread(0, 0)),
-            (&[(Call::OpenIn, 2), (Call::OpenOut, 1)], End::Unread(0, 0)),
-            (&[(Call::Read, 1), (Call::OpenOut, 1)], End::Unread(0, 0)),
-            (&[(Call::OpenIn, 3), (Call::OpenOut, 2)], End::Done),
-        ],
-        single: &[],
+        whole: "open_in 1 open_out 1: unread 0 0|open_in 2 open_out 1: unread 0 0|read 1 open_out 1: unread 0 0|\
+            open_in 3 open_out 2: done",
+        single: "",
     },
     Faults {
         words: BY_SCRIPT,
@@ -126,35 +78,14 @@ static OTHERS: [Faults; 5] = [
         output: PLAYED,
         report: PLAY_REPORT,
         // The script is read by two readings, and then the store.
-        whole: &[
-            (&[(Call::Read, 4)], End::Unread(29, 0)),
-            (&[(Call::Read, 5)], End::Done),
-        ],
+        whole: "read 4: unread 29 0|read 5: done",
         // Ten reads move the script, and one meets its end. The packets end at the bytes 10, 20, 28 and 37.
-        single: &[
-            (&[(Call::OpenIn, 1), (Call::OpenOut, 1)], End::Unread(0, 0)),
-            (&[(Call::OpenIn, 2), (Call::OpenOut, 1)], End::Unread(0, 0)),
-            (&[(Call::OpenOut, 1)], End::Unwritten(0, 0)),
-            (&[(Call::OpenOut, 2)], End::Unwritten(0, 0)),
-            (&[(Call::Read, 11), (Call::OpenOut, 1)], End::Unread(0, 0)),
-            (&[(Call::Read, 21)], End::Unread(0, 0)),
-            (&[(Call::Read, 22)], End::Unread(10, 0)),
-            (&[(Call::Read, 40)], End::Unread(20, 0)),
-            (&[(Call::Read, 48)], End::Unread(20, 0)),
-            (&[(Call::Read, 49)], End::Unread(29, 0)),
-            (&[(Call::Read, 50)], End::Done),
-            (&[(Call::Write, 1)], End::Unwritten(0, 0)),
-            (&[(Call::Write, 2)], End::Unwritten(1, 0)),
-            (&[(Call::Write, 11)], End::Unwritten(10, 0)),
-            (&[(Call::Write, 29)], End::Unwritten(28, 0)),
-            (&[(Call::Write, 30)], End::Unwritten(29, 0)),
-            (&[(Call::Write, 76)], End::Unwritten(29, 46)),
-            (&[(Call::Write, 77)], End::Unwritten(29, 47)),
-            (&[(Call::Write, 88)], End::Unwritten(29, 58)),
-            (&[(Call::Write, 89)], End::Done),
-            (&[(Call::Finish, 1)], End::Unwritten(29, 59)),
-            (&[(Call::Finish, 2)], End::HalfKept),
-        ],
+        single: "open_in 1 open_out 1: unread 0 0|open_in 2 open_out 1: unread 0 0|open_out 1: unwritten 0 0|\
+            open_out 2: unwritten 0 0|read 11 open_out 1: unread 0 0|read 21: unread 0 0|read 22: unread 10 0|\
+            read 40: unread 20 0|read 48: unread 20 0|read 49: unread 29 0|read 50: done|write 1: unwritten 0 0|\
+            write 2: unwritten 1 0|write 11: unwritten 10 0|write 29: unwritten 28 0|write 30: unwritten 29 0|\
+            write 76: unwritten 29 46|write 77: unwritten 29 47|write 88: unwritten 29 58|write 89: done|\
+            finish 1: unwritten 29 59|finish 2: half",
     },
     Faults {
         words: LIST,
@@ -162,27 +93,11 @@ static OTHERS: [Faults; 5] = [
         side: None,
         output: LISTING,
         report: &[],
-        whole: &[
-            (&[(Call::Read, 2)], End::Unread(72, 0)),
-            (&[(Call::Read, 3)], End::Done),
-        ],
+        whole: "read 2: unread 72 0|read 3: done",
         // The first line has 21 bytes, the last ten.
-        single: &[
-            (&[(Call::OpenIn, 1), (Call::OpenOut, 1)], End::Unread(0, 0)),
-            (&[(Call::OpenIn, 2)], End::Done),
-            (&[(Call::OpenOut, 1)], End::Unwritten(0, 0)),
-            (&[(Call::OpenOut, 2)], End::Done),
-            (&[(Call::Read, 1)], End::Unread(0, 0)),
-            (&[(Call::Read, 11)], End::Unread(21, 0)),
-            (&[(Call::Read, 30)], End::Unread(72, 0)),
-            (&[(Call::Read, 31)], End::Done),
-            (&[(Call::Write, 1)], End::Unwritten(0, 0)),
-            (&[(Call::Write, 22)], End::Unwritten(21, 0)),
-            (&[(Call::Write, 82)], End::Unwritten(81, 0)),
-            (&[(Call::Write, 83)], End::Done),
-            (&[(Call::Finish, 1)], End::Unwritten(82, 0)),
-            (&[(Call::Finish, 2)], End::Done),
-        ],
+        single: "open_in 1 open_out 1: unread 0 0|open_in 2: done|open_out 1: unwritten 0 0|open_out 2: done|\
+            read 1: unread 0 0|read 11: unread 21 0|read 30: unread 72 0|read 31: done|write 1: unwritten 0 0|\
+            write 22: unwritten 21 0|write 82: unwritten 81 0|write 83: done|finish 1: unwritten 82 0|finish 2: done",
     },
     Faults {
         words: THREE,
@@ -191,83 +106,110 @@ static OTHERS: [Faults; 5] = [
         output: SUMMARY,
         report: &[],
         // Nothing is read, nothing more is opened, and the summary is written in one piece.
-        whole: &[(
-            &[
-                (Call::OpenIn, 1),
-                (Call::Read, 1),
-                (Call::OpenOut, 2),
-                (Call::Write, 2),
-                (Call::Finish, 2),
-            ],
-            End::Done,
-        )],
-        single: &[
-            (&[(Call::OpenOut, 1)], End::Unwritten(0, 0)),
-            (&[(Call::Write, 1)], End::Unwritten(0, 0)),
-            (&[(Call::Write, 11)], End::Unwritten(10, 0)),
-            (&[(Call::Write, 72)], End::Unwritten(71, 0)),
-            (&[(Call::Finish, 1)], End::Unwritten(72, 0)),
-        ],
+        whole: "open_in 1 read 1 open_out 2 write 2 finish 2: done",
+        single: "open_out 1: unwritten 0 0|write 1: unwritten 0 0|write 11: unwritten 10 0|write 72: unwritten 71 0|\
+            finish 1: unwritten 72 0",
     },
 ];
 
-fn ending<'a>(end: End, output: &'a [u8], report: &'a [u8]) -> Ending<'a> {
-    match end {
-        End::Done => done(output, report),
-        End::Unread(most, noted) => refused(
-            Refusal::ReadFault,
-            front(output, most),
-            front(report, noted),
-        ),
-        End::Unwritten(most, noted) => refused(
-            Refusal::WriteFault,
-            front(output, most),
-            front(report, noted),
-        ),
-        End::HalfKept => Ending {
-            kept_output: output,
-            ..refused(Refusal::WriteFault, output, report)
-        },
+static CALLS: [(&str, Call); 5] = [
+    ("open_in", Call::OpenIn),
+    ("open_out", Call::OpenOut),
+    ("read", Call::Read),
+    ("write", Call::Write),
+    ("finish", Call::Finish),
+];
+
+fn call_of(name: &str) -> Option<Call> {
+    for (known, call) in &CALLS {
+        if *known == name {
+            return Some(*call);
+        }
     }
+    None
 }
 
-fn assert_fault_rows(
+/// The calls that fail in a row.
+fn calls_of(rt: &(impl Abort + AllocGlobal), text: &str) -> Result<Vec<(Call, u32)>, Fail> {
+    let mut calls = Vec::new(rt.alloc());
+    let mut words = text.split_ascii_whitespace();
+    while let Some(name) = words.next() {
+        let (Some(call), Ok(number)) = (call_of(name), words.next().unwrap_or("").parse()) else {
+            return Err(Fail::new(text));
+        };
+        calls.push((call, number))?;
+    }
+    Ok(calls)
+}
+
+/// How the run of a row ends.
+fn ending_of<'a>(text: &str, output: &'a [u8], report: &'a [u8]) -> Option<Ending<'a>> {
+    let mut words = text.split_ascii_whitespace();
+    let refusal = match words.next()? {
+        "done" => return Some(done(output, report)),
+        "half" => {
+            return Some(Ending {
+                kept_output: output,
+                ..refused(Refusal::WriteFault, output, report)
+            });
+        }
+        "unread" => Refusal::ReadFault,
+        "unwritten" => Refusal::WriteFault,
+        _ => return None,
+    };
+    let output = front(output, words.next()?.parse().ok()?);
+    let report = front(report, words.next()?.parse().ok()?);
+    Some(refused(refusal, output, report))
+}
+
+fn assert_fault_row(
     rt: &(impl Abort + AllocGlobal),
     faults: &Faults,
     one_byte: bool,
-    rows: &[Row],
+    row: &str,
 ) -> Result<(), Fail> {
-    for (fails, end) in rows {
-        let case = Case {
-            words: faults.words,
-            input: faults.input,
-            side: faults.side,
-            one_byte,
-            fails,
-        };
-        assert_ending(rt, &case, &ending(*end, faults.output, faults.report))?;
-    }
-    Ok(())
+    let (calls, end) = row.split_once(':').unwrap_or((row, ""));
+    let Some(ending) = ending_of(end, faults.output, faults.report) else {
+        return Err(Fail::new(row));
+    };
+    let fails = calls_of(rt, calls)?;
+    let case = Case {
+        words: faults.words,
+        input: faults.input,
+        side: faults.side,
+        one_byte,
+        fails: &fails,
+    };
+    assert_ending(rt, &case, &ending)
 }
 
 pub fn assert_faults(rt: &(impl Abort + AllocGlobal), verbs: &[Faults]) -> Result<(), Fail> {
     for faults in verbs {
-        assert_fault_rows(rt, faults, false, faults.whole)?;
-        assert_fault_rows(rt, faults, true, faults.single)?;
+        for row in faults.whole.split_terminator('|') {
+            assert_fault_row(rt, faults, false, row)?;
+        }
+        for row in faults.single.split_terminator('|') {
+            assert_fault_row(rt, faults, true, row)?;
+        }
     }
     Ok(())
 }
 
 /// What `restore` leaves if it could write this many bytes of 47: the report's first line, two contents, the lost row,
 /// the third content and the last row come in this order.
-fn restored_until(written: usize) -> End {
-    match written {
-        0..=23 => End::Unwritten(0, written),
-        24..=25 => End::Unwritten(written - 23, 23),
-        26..=36 => End::Unwritten(2, written - 2),
-        37..=46 => End::Unwritten(3, written - 3),
-        _ => End::Done,
-    }
+fn restored_until(written: usize) -> Ending<'static> {
+    let (most, noted) = match written {
+        0..=23 => (0, written),
+        24..=25 => (written - 23, 23),
+        26..=36 => (2, written - 2),
+        37..=46 => (3, written - 3),
+        _ => return done(RESTORED, REPORT),
+    };
+    refused(
+        Refusal::WriteFault,
+        front(RESTORED, most),
+        front(REPORT, noted),
+    )
 }
 
 /// Makes each write of one byte fail in turn, up to the first number that no write has.
@@ -278,8 +220,7 @@ fn assert_writes(rt: &(impl Abort + AllocGlobal)) -> Result<(), Fail> {
             fails: &[(Call::Write, written + 1)],
             ..with_input(EIGHT_BITS, PLAYED)
         };
-        let end = restored_until(written as usize);
-        assert_ending(rt, &case, &ending(end, RESTORED, REPORT))?;
+        assert_ending(rt, &case, &restored_until(written as usize))?;
     }
     Ok(())
 }

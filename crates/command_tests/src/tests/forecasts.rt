@@ -1,7 +1,7 @@
 //! Worked forecasts: of a thousand packets and of few, scripts and schedules that are refused, and a desk that fails.
 
 use super::desk::{Case, assert_ending, done, refused, with_both, words_alone};
-use super::faults::{End, Faults, assert_faults};
+use super::faults::{Faults, assert_faults};
 use super::rows::{Form, Table, Wrong, assert_refused, assert_rows, assert_wrong_words};
 use desk_ports::Call;
 use pocket_cmd::Refusal;
@@ -150,36 +150,14 @@ static FAILING: [Faults; 1] = [Faults {
     side: Some(PLAN),
     output: TEXT,
     report: &[],
-    whole: &[
-        (&[(Call::OpenIn, 1), (Call::OpenOut, 1)], End::Unread(0, 0)),
-        (&[(Call::OpenIn, 2), (Call::OpenOut, 1)], End::Unread(0, 0)),
-        (&[(Call::OpenIn, 3)], End::Done),
-        // Two readings of the schedule, and two of the script.
-        (&[(Call::Read, 1), (Call::OpenIn, 2)], End::Unread(0, 0)),
-        (&[(Call::Read, 2), (Call::OpenIn, 2)], End::Unread(0, 0)),
-        (&[(Call::Read, 3), (Call::OpenOut, 1)], End::Unread(0, 0)),
-        (&[(Call::Read, 4), (Call::OpenOut, 1)], End::Unread(0, 0)),
-        (&[(Call::Read, 5)], End::Done),
-        (&[(Call::OpenOut, 1)], End::Unwritten(0, 0)),
-        (&[(Call::OpenOut, 2)], End::Done),
-        (&[(Call::Write, 1)], End::Unwritten(0, 0)),
-        (&[(Call::Write, 2)], End::Unwritten(17, 0)),
-        (&[(Call::Write, 3)], End::Unwritten(26, 0)),
-        (&[(Call::Write, 4)], End::Unwritten(35, 0)),
-        // The last two lines are one piece.
-        (&[(Call::Write, 5)], End::Unwritten(44, 0)),
-        (&[(Call::Write, 6)], End::Done),
-        (&[(Call::Finish, 1)], End::Unwritten(61, 0)),
-        (&[(Call::Finish, 2)], End::Done),
-    ],
-    single: &[
-        (&[(Call::Read, 9), (Call::OpenIn, 2)], End::Unread(0, 0)),
-        (&[(Call::Read, 20), (Call::OpenOut, 1)], End::Unread(0, 0)),
-        (&[(Call::Read, 21)], End::Done),
-        (&[(Call::Write, 20)], End::Unwritten(19, 0)),
-        (&[(Call::Write, 61)], End::Unwritten(60, 0)),
-        (&[(Call::Write, 62)], End::Done),
-    ],
+    // Two readings are of the schedule, and two of the script; the last two lines are one piece.
+    whole: "open_in 1 open_out 1: unread 0 0|open_in 2 open_out 1: unread 0 0|open_in 3: done|\
+        read 1 open_in 2: unread 0 0|read 2 open_in 2: unread 0 0|read 3 open_out 1: unread 0 0|\
+        read 4 open_out 1: unread 0 0|read 5: done|open_out 1: unwritten 0 0|open_out 2: done|\
+        write 1: unwritten 0 0|write 2: unwritten 17 0|write 3: unwritten 26 0|write 4: unwritten 35 0|\
+        write 5: unwritten 44 0|write 6: done|finish 1: unwritten 61 0|finish 2: done",
+    single: "read 9 open_in 2: unread 0 0|read 20 open_out 1: unread 0 0|read 21: done|write 20: unwritten 19 0|\
+        write 61: unwritten 60 0|write 62: done",
 }];
 
 #[test]

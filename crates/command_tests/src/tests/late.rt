@@ -1,9 +1,8 @@
 //! Packets that come late: worked orders, and what stands if a call fails or the store is cut.
 
 use super::desk::HEADER;
-use super::faults::{End, Faults, assert_faults};
+use super::faults::{Faults, assert_faults};
 use super::rows::{Faulty, Form, Table, Wrong, assert_faulty, assert_rows, assert_wrong_words};
-use desk_ports::Call;
 use packet_store::StoreKind;
 use std::test::Fail;
 
@@ -101,41 +100,14 @@ static FAILING: [Faults; 1] = [Faults {
     side: None,
     output: RESTORED,
     report: REPORT,
-    whole: &[
-        (&[(Call::OpenIn, 1), (Call::OpenOut, 1)], End::Unread(0, 0)),
-        (&[(Call::OpenIn, 2)], End::Done),
-        (&[(Call::OpenOut, 1)], End::Unwritten(0, 0)),
-        (&[(Call::OpenOut, 2)], End::Unwritten(0, 0)),
-        (&[(Call::OpenOut, 3)], End::Done),
-        (&[(Call::Read, 1)], End::Unread(0, 23)),
-        (&[(Call::Read, 2)], End::Unread(3, 23)),
-        (&[(Call::Read, 3)], End::Done),
-        (&[(Call::Write, 1)], End::Unwritten(0, 0)),
-        (&[(Call::Write, 2)], End::Unwritten(0, 23)),
-        (&[(Call::Write, 3)], End::Unwritten(1, 23)),
-        (&[(Call::Write, 4)], End::Unwritten(2, 23)),
-        (&[(Call::Write, 5)], End::Unwritten(3, 23)),
-        (&[(Call::Write, 6)], End::Unwritten(4, 23)),
-        (&[(Call::Write, 7)], End::Unwritten(4, 33)),
-        (&[(Call::Write, 8)], End::Done),
-        (&[(Call::Finish, 1)], End::Unwritten(4, 40)),
-        (&[(Call::Finish, 2)], End::HalfKept),
-        (&[(Call::Finish, 3)], End::Done),
-    ],
-    single: &[
-        (&[(Call::Read, 1)], End::Unread(0, 23)),
-        (&[(Call::Read, 18)], End::Unread(0, 23)),
-        (&[(Call::Read, 19)], End::Unread(1, 23)),
-        (&[(Call::Read, 28)], End::Unread(1, 23)),
-        (&[(Call::Read, 29)], End::Unread(2, 23)),
-        (&[(Call::Read, 37)], End::Unread(2, 23)),
-        (&[(Call::Read, 38)], End::Unread(3, 23)),
-        (&[(Call::Read, 39)], End::Done),
-        (&[(Call::Write, 23)], End::Unwritten(0, 22)),
-        (&[(Call::Write, 37)], End::Unwritten(4, 32)),
-        (&[(Call::Write, 44)], End::Unwritten(4, 39)),
-        (&[(Call::Write, 45)], End::Done),
-    ],
+    whole: "open_in 1 open_out 1: unread 0 0|open_in 2: done|open_out 1: unwritten 0 0|open_out 2: unwritten 0 0|\
+        open_out 3: done|read 1: unread 0 23|read 2: unread 3 23|read 3: done|write 1: unwritten 0 0|\
+        write 2: unwritten 0 23|write 3: unwritten 1 23|write 4: unwritten 2 23|write 5: unwritten 3 23|\
+        write 6: unwritten 4 23|write 7: unwritten 4 33|write 8: done|finish 1: unwritten 4 40|finish 2: half|\
+        finish 3: done",
+    single: "read 1: unread 0 23|read 18: unread 0 23|read 19: unread 1 23|read 28: unread 1 23|read 29: unread 2 23|\
+        read 37: unread 2 23|read 38: unread 3 23|read 39: done|write 23: unwritten 0 22|write 37: unwritten 4 32|\
+        write 44: unwritten 4 39|write 45: done",
 }];
 
 #[test]

@@ -1,11 +1,10 @@
 //! Worked stores of several streams, the rules of their side texts, and what stands if a call fails.
 
 use super::desk::{assert_both, done, front, refused, with_both};
-use super::faults::{End, Faults, assert_faults};
+use super::faults::{Faults, assert_faults};
 use super::rows::{
     Form, Table, Wrong, assert_refused, assert_rows, assert_wrong_sides, assert_wrong_words,
 };
-use desk_ports::Call;
 use packet_store::StoreKind;
 use pocket_cmd::Refusal;
 use std::alloc::{AllocError, Global};
@@ -126,45 +125,15 @@ static FAILING: [Faults; 1] = [Faults {
     side: Some(TWO_STREAMS),
     output: RESTORED,
     report: REPORT,
-    whole: &[
-        (&[(Call::OpenIn, 1), (Call::OpenOut, 1)], End::Unread(0, 0)),
-        (&[(Call::OpenIn, 2), (Call::OpenOut, 1)], End::Unread(0, 0)),
-        (&[(Call::OpenIn, 3)], End::Done),
-        (&[(Call::OpenOut, 1)], End::Unwritten(0, 0)),
-        (&[(Call::OpenOut, 2)], End::Unwritten(0, 0)),
-        (&[(Call::OpenOut, 3)], End::Done),
-        (&[(Call::Read, 1), (Call::OpenOut, 1)], End::Unread(0, 0)),
-        (&[(Call::Read, 2), (Call::OpenOut, 1)], End::Unread(0, 0)),
-        (&[(Call::Read, 3)], End::Unread(0, 28)),
-        (&[(Call::Read, 4)], End::Unread(14, 62)),
-        (&[(Call::Read, 5)], End::Done),
-        (&[(Call::Write, 1)], End::Unwritten(0, 0)),
-        (&[(Call::Write, 2)], End::Unwritten(0, 5)),
-        (&[(Call::Write, 3)], End::Unwritten(0, 28)),
-        (&[(Call::Write, 4)], End::Unwritten(7, 28)),
-        (&[(Call::Write, 5)], End::Unwritten(7, 32)),
-        (&[(Call::Write, 6)], End::Unwritten(7, 43)),
-        (&[(Call::Write, 7)], End::Unwritten(7, 47)),
-        (&[(Call::Write, 8)], End::Unwritten(7, 62)),
-        (&[(Call::Write, 9)], End::Unwritten(14, 62)),
-        (&[(Call::Write, 10)], End::Unwritten(14, 66)),
-        (&[(Call::Write, 11)], End::Unwritten(14, 76)),
-        (&[(Call::Write, 12)], End::Unwritten(14, 80)),
-        (&[(Call::Write, 13)], End::Unwritten(14, 90)),
-        (&[(Call::Write, 14)], End::Done),
-        (&[(Call::Finish, 1)], End::Unwritten(14, 98)),
-        (&[(Call::Finish, 2)], End::HalfKept),
-        (&[(Call::Finish, 3)], End::Done),
-    ],
-    single: &[
-        (&[(Call::Write, 6)], End::Unwritten(0, 5)),
-        (&[(Call::Write, 28)], End::Unwritten(0, 27)),
-        (&[(Call::Write, 35)], End::Unwritten(6, 28)),
-        (&[(Call::Write, 40)], End::Unwritten(7, 32)),
-        (&[(Call::Write, 76)], End::Unwritten(13, 62)),
-        (&[(Call::Write, 112)], End::Unwritten(14, 97)),
-        (&[(Call::Write, 113)], End::Done),
-    ],
+    whole: "open_in 1 open_out 1: unread 0 0|open_in 2 open_out 1: unread 0 0|open_in 3: done|open_out 1: unwritten 0 0|\
+        open_out 2: unwritten 0 0|open_out 3: done|read 1 open_out 1: unread 0 0|read 2 open_out 1: unread 0 0|\
+        read 3: unread 0 28|read 4: unread 14 62|read 5: done|write 1: unwritten 0 0|write 2: unwritten 0 5|\
+        write 3: unwritten 0 28|write 4: unwritten 7 28|write 5: unwritten 7 32|write 6: unwritten 7 43|\
+        write 7: unwritten 7 47|write 8: unwritten 7 62|write 9: unwritten 14 62|write 10: unwritten 14 66|\
+        write 11: unwritten 14 76|write 12: unwritten 14 80|write 13: unwritten 14 90|write 14: done|\
+        finish 1: unwritten 14 98|finish 2: half|finish 3: done",
+    single: "write 6: unwritten 0 5|write 28: unwritten 0 27|write 35: unwritten 6 28|write 40: unwritten 7 32|\
+        write 76: unwritten 13 62|write 112: unwritten 14 97|write 113: done",
 }];
 
 #[test]

@@ -1,12 +1,12 @@
 //! Tables of worked recordings, the rules of their side texts, and what stands if a call fails.
 
 use super::desk::{answer, assert_both, done, hold, new_desk, with_both};
-use super::faults::{End, Faults, assert_faults};
+use super::faults::{Faults, assert_faults};
 use super::rows::{
     Form, Refused, Table, Wrong, assert_refusals, assert_rows, assert_wrong_sides,
     assert_wrong_words,
 };
-use desk_ports::{Call, MemDesk};
+use desk_ports::MemDesk;
 use pocket_cmd::{Refusal, Status};
 use std::alloc::{AllocError, Global};
 use std::test::Fail;
@@ -160,38 +160,13 @@ static FAILING: [Faults; 1] = [Faults {
     side: Some(FIELDS),
     output: TABLE,
     report: REPORT,
-    whole: &[
-        (&[(Call::OpenIn, 1), (Call::OpenOut, 1)], End::Unread(0, 0)),
-        (&[(Call::OpenIn, 2), (Call::OpenOut, 1)], End::Unread(0, 0)),
-        (&[(Call::OpenIn, 3)], End::Done),
-        (&[(Call::OpenOut, 1)], End::Unwritten(0, 0)),
-        (&[(Call::OpenOut, 2)], End::Unwritten(0, 0)),
-        (&[(Call::OpenOut, 3)], End::Done),
-        (&[(Call::Read, 1), (Call::OpenOut, 1)], End::Unread(0, 0)),
-        (&[(Call::Read, 2), (Call::OpenOut, 1)], End::Unread(0, 0)),
-        (&[(Call::Read, 3)], End::Unread(12, 22)),
-        (&[(Call::Read, 4)], End::Unread(27, 40)),
-        (&[(Call::Read, 5)], End::Done),
-        (&[(Call::Write, 1)], End::Unwritten(0, 0)),
-        (&[(Call::Write, 2)], End::Unwritten(12, 0)),
-        (&[(Call::Write, 3)], End::Unwritten(12, 22)),
-        (&[(Call::Write, 4)], End::Unwritten(20, 22)),
-        (&[(Call::Write, 5)], End::Unwritten(20, 40)),
-        (&[(Call::Write, 6)], End::Unwritten(27, 40)),
-        (&[(Call::Write, 7)], End::Done),
-        (&[(Call::Finish, 1)], End::Unwritten(27, 48)),
-        (&[(Call::Finish, 2)], End::HalfKept),
-        (&[(Call::Finish, 3)], End::Done),
-    ],
-    single: &[
-        (&[(Call::Write, 12)], End::Unwritten(11, 0)),
-        (&[(Call::Write, 34)], End::Unwritten(12, 21)),
-        (&[(Call::Write, 42)], End::Unwritten(19, 22)),
-        (&[(Call::Write, 60)], End::Unwritten(20, 39)),
-        (&[(Call::Write, 67)], End::Unwritten(26, 40)),
-        (&[(Call::Write, 75)], End::Unwritten(27, 47)),
-        (&[(Call::Write, 76)], End::Done),
-    ],
+    whole: "open_in 1 open_out 1: unread 0 0|open_in 2 open_out 1: unread 0 0|open_in 3: done|open_out 1: unwritten 0 0|\
+        open_out 2: unwritten 0 0|open_out 3: done|read 1 open_out 1: unread 0 0|read 2 open_out 1: unread 0 0|\
+        read 3: unread 12 22|read 4: unread 27 40|read 5: done|write 1: unwritten 0 0|write 2: unwritten 12 0|\
+        write 3: unwritten 12 22|write 4: unwritten 20 22|write 5: unwritten 20 40|write 6: unwritten 27 40|\
+        write 7: done|finish 1: unwritten 27 48|finish 2: half|finish 3: done",
+    single: "write 12: unwritten 11 0|write 34: unwritten 12 21|write 42: unwritten 19 22|write 60: unwritten 20 39|\
+        write 67: unwritten 26 40|write 75: unwritten 27 47|write 76: done",
 }];
 
 #[test]
