@@ -4,9 +4,13 @@ use Rattle.std.specs.List.{flat_map, list_any}
 use Rattle.std.specs.Int.{bit_at}
 use Rattle.std.specs.Simd.Lanes.{zip2}
 
--- a number of places, from 1 to 49,152; a vector has such a number
+-- the most places that a vector has
+abbrev pub most_places : ℕ
+most_places = 49152
+
+-- a number of places; a vector has such a number
 abbrev pub IsPlaces : ℕ → Type 0
-IsPlaces f = (1 ≤ f) × (f ≤ 49152)
+IsPlaces f = (1 ≤ f) × (f ≤ most_places)
 
 abbrev pub IsVector : List Bool → Type 0
 IsVector v = IsPlaces (length v)

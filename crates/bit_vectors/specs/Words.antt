@@ -2,7 +2,7 @@
 use Rattle.std.specs.Prelude.{◌≡◌, ℕ, ◌+◌, ◌-◌, ◌*◌, ◌/◌, ◌%◌, ◌^◌, ◌<◌, ◌≤◌, ◌==◌, Bool, false, List, length, take, slice_index, slice_index_or}
 use Rattle.std.specs.List.{flat_map}
 use Rattle.std.specs.Int.{bit_at}
-use Rattle.bit_vectors.specs.Vectors.{number_bits}
+use Rattle.bit_vectors.specs.Vectors.{number_bits, most_places}
 
 -- how many words the given number of places needs
 abbrev pub word_count : ℕ → ℕ
@@ -33,7 +33,7 @@ vector_of words places = take places (word_bits words)
 -- the words contain the places, and no spare bit is 1
 pub record AreWords (words : List ℕ) (places : ℕ) : Type 0 where
   pub some : 1 ≤ places
-  pub most : places ≤ 49152
+  pub most : places ≤ most_places
   pub count : length words ≡ word_count places
   pub numbers : (i : ℕ) → slice_index words i < 2 ^ 64
   pub spare : (k : ℕ) → places ≤ k → bit_of words k ≡ false

@@ -15,6 +15,9 @@ use crate::words::{
 use std::alloc::Global;
 use std::marker::Model;
 
+/// The most places that a vector has.
+pub const MOST_PLACES: u32 = 49_152;
+
 /// The number of bytes that a vector of `f` places takes.
 pub fn byte_len(f: u32) -> u32
     requires valid { IsPlaces f }

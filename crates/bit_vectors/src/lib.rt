@@ -13,7 +13,7 @@ mod room;
 mod word_bytes;
 mod words;
 
-pub use bits::{Bits, byte_len};
+pub use bits::{Bits, MOST_PLACES, byte_len};
 pub use eye::BitEye;
 pub use fault::{BitFault, NoMemory, SpareBit};
 pub use flags::Flags;

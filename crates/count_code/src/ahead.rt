@@ -2,6 +2,7 @@
 
 ghost use Rattle.std.specs.Prelude.{◌≡◌, ◌≤◌, List, Bool, take, drop, IfSome};
 ghost use Rattle.bit_vectors.specs.Eye.{bits_left};
+ghost use Rattle.bit_vectors.specs.Vectors.{most_places};
 ghost use Rattle.count_code.specs.Counts.{AreAhead, IsWithin, word_of};
 
 use crate::count::Count;
@@ -102,7 +103,7 @@ impl Ahead {
 /// word, so the contract states only its bounds.
 fn guessed_count(ahead: u64) -> u32
     ensures some { 1 ≤ result }
-    ensures most { result ≤ 49152 }
+    ensures most { result ≤ most_places }
 {
     if ahead >> 61 == 0b110 {
         return 2 + ((ahead >> 56) % 32) as u32;

@@ -3,6 +3,7 @@
 ghost use Rattle.std.specs.Prelude.{◌≡◌, ◌-◌, ◌*◌, ◌^◌, ◌≤◌, ◌++◌, Bool, List, Ok, IfOk, IfErr};
 ghost use Rattle.bit_vectors.specs.Eye.{bits_left};
 ghost use Rattle.bit_vectors.specs.Reading.{Gives, MovesOn, IsFirstFault};
+ghost use Rattle.bit_vectors.specs.Vectors.{most_places};
 ghost use Rattle.count_code.specs.Counts.{AreAhead, word_of, IsWithin, IsCode, parse_bounded, parse_long, parse_above_one, parse_after_one, parse_count};
 ghost use Rattle.count_code.specs.declared.count.Count.{Count};
 
@@ -14,7 +15,7 @@ use bit_vectors::{BitEye, BitFault};
 /// first bit after which neither can follow, and the eye is then just after it. `EndsEarly` comes if
 /// the bits end before such a word is complete, and the eye is then at the end.
 pub fn take_count(eye: &mut BitEye, limit: u32) -> Result<Count, BitFault>
-    requires { limit ≤ 49152 }
+    requires { limit ≤ most_places }
     ensures moves { MovesOn eye.old eye.new }
     ensures word { IfOk result
         (λ count. IsWithin limit count × (bits_left eye.old ≡ word_of count ++ bits_left eye.new)) }
@@ -30,7 +31,7 @@ pub fn take_count(eye: &mut BitEye, limit: u32) -> Result<Count, BitFault>
 /// The same for one of several counts: bits that were looked at for one are kept for the next.
 #[inline(always)]
 pub fn take_count_with(eye: &mut BitEye, ahead: &mut Ahead, limit: u32) -> Result<Count, BitFault>
-    requires limit { limit ≤ 49152 }
+    requires limit { limit ≤ most_places }
     requires ahead { AreAhead (bits_left eye.old) ahead.old }
     ensures moves { MovesOn eye.old eye.new }
     ensures word { IfOk result
@@ -48,7 +49,7 @@ pub fn take_count_with(eye: &mut BitEye, ahead: &mut Ahead, limit: u32) -> Resul
 /// Takes a count or the end: at once if its whole word is seen ahead, else bit by bit.
 #[inline(always)]
 fn read_count(eye: &mut BitEye, ahead: &mut Ahead, limit: u32) -> Result<Count, BitFault>
-    requires limit { limit ≤ 49152 }
+    requires limit { limit ≤ most_places }
     requires ahead { AreAhead (bits_left eye.old) ahead.old }
     ensures moves { MovesOn eye.old eye.new }
     ensures reading { Gives (λ count. count) result eye.new
@@ -69,7 +70,7 @@ fn read_count(eye: &mut BitEye, ahead: &mut Ahead, limit: u32) -> Result<Count, 
 #[inline(never)]
 #[tactic(auto, unfolding(crate::specs::Counts::parse_count))]
 fn read_bits(eye: &mut BitEye, limit: u32) -> Result<Count, BitFault>
-    requires { limit ≤ 49152 }
+    requires { limit ≤ most_places }
     ensures moves { MovesOn eye.old eye.new }
     ensures reading { Gives (λ count. count) result eye.new
         (parse_count limit (bits_left eye.old)) }
@@ -84,7 +85,7 @@ fn read_bits(eye: &mut BitEye, limit: u32) -> Result<Count, BitFault>
 /// Takes what follows a first bit that is one.
 #[tactic(auto, unfolding(crate::specs::Counts::parse_after_one))]
 fn after_one(eye: &mut BitEye, limit: u32) -> Result<Count, BitFault>
-    requires { limit ≤ 49152 }
+    requires { limit ≤ most_places }
     ensures moves { MovesOn eye.old eye.new }
     ensures reading { Gives (λ count. count) result eye.new
         (parse_after_one limit (bits_left eye.old)) }
@@ -101,7 +102,7 @@ fn after_one(eye: &mut BitEye, limit: u32) -> Result<Count, BitFault>
 #[tactic(auto, unfolding(crate::specs::Counts::parse_above_one))]
 fn above_one(eye: &mut BitEye, limit: u32) -> Result<u32, BitFault>
     requires least { 2 ≤ limit }
-    requires most { limit ≤ 49152 }
+    requires most { limit ≤ most_places }
     ensures moves { MovesOn eye.old eye.new }
     ensures reading { Gives (λ n. n) result eye.new (parse_above_one limit (bits_left eye.old)) }
     ensures most { IfOk result (λ n. n ≤ limit - 2) }

@@ -1,7 +1,7 @@
 //! What the definitions say of hostile stores: the exact run, the first wrong bit, and refused packets.
 
 ghost use Rattle.std.specs.Prelude.{◌≡◌, ◌+◌, ◌≤◌, ◌<◌, ◌^◌, ◌↔◌, ◌∷◌, [], ◌++◌, ℕ, length, take, List, Some, None, codes};
-ghost use Rattle.bit_vectors.specs.Vectors.{bits_of};
+ghost use Rattle.bit_vectors.specs.Vectors.{bits_of, most_places};
 ghost use Rattle.desk_ports.specs.Courses.{owed, texts_of, to_output};
 ghost use Rattle.packet_decode.specs.State.{IsState};
 ghost use Rattle.packet_decode.specs.Answers.{IsExactAnswer};
@@ -42,22 +42,22 @@ pub fn commands_follow_the_exact_run()
 /// `t,t,early,p` or `t early p`, these are all its bits, and they begin some.
 pub fn wrong_bits_are_the_first()
     ensures wrong { (f bit : ℕ) (before : List Arrival) (arrival : Arrival) →
-        1 ≤ f → f ≤ 49152 → length arrival.body ≤ 65536 → bit < 2 ^ 64 →
+        1 ≤ f → f ≤ most_places → length arrival.body ≤ 65536 → bit < 2 ^ 64 →
         SaysRow (judge f (known_after f before) arrival) (codes "wrong") bit →
         BeginData f before arrival.count (take bit (bits_of arrival.body))
         × (BeginData f before arrival.count (take (bit + 1) (bits_of arrival.body)) → ⊥) }
     ensures early { (f bit : ℕ) (before : List Arrival) (arrival : Arrival) →
-        1 ≤ f → f ≤ 49152 → length arrival.body ≤ 65536 → bit < 2 ^ 64 →
+        1 ≤ f → f ≤ most_places → length arrival.body ≤ 65536 → bit < 2 ^ 64 →
         SaysRow (judge f (known_after f before) arrival) (codes "early") bit →
         (bit ≡ length (bits_of arrival.body))
         × BeginData f before arrival.count (bits_of arrival.body) }
     ensures listed_wrong { (f bit : ℕ) (before : List Arrival) (arrival : Arrival) →
-        1 ≤ f → f ≤ 49152 → length arrival.body ≤ 65536 → bit < 2 ^ 64 →
+        1 ≤ f → f ≤ most_places → length arrival.body ≤ 65536 → bit < 2 ^ 64 →
         SaysLine (judge f (known_after f before) arrival) (codes "wrong") bit →
         BeginData f before arrival.count (take bit (bits_of arrival.body))
         × (BeginData f before arrival.count (take (bit + 1) (bits_of arrival.body)) → ⊥) }
     ensures listed_early { (f bit : ℕ) (before : List Arrival) (arrival : Arrival) →
-        1 ≤ f → f ≤ 49152 → length arrival.body ≤ 65536 → bit < 2 ^ 64 →
+        1 ≤ f → f ≤ most_places → length arrival.body ≤ 65536 → bit < 2 ^ 64 →
         SaysLine (judge f (known_after f before) arrival) (codes "early") bit →
         (bit ≡ length (bits_of arrival.body))
         × BeginData f before arrival.count (bits_of arrival.body) }

@@ -1,6 +1,6 @@
 -- Why a call gives nothing: the first of what is amiss.
 use Rattle.std.specs.Prelude.{ℕ, ◌^◌, ◌==◌, nat_lt, not, ◌||◌, if◌then◌else◌, List, length, Option, None, Some, Result, Ok, Err}
-use Rattle.bit_vectors.specs.Vectors.{byte_count, has_spare_bit}
+use Rattle.bit_vectors.specs.Vectors.{byte_count, has_spare_bit, most_places}
 use Rattle.packet_store.specs.SpacePackets.{period}
 use Rattle.ground_chain.specs.Reckoning.{Reckoning}
 use Rattle.packet_calls.specs.declared.fault.OpenFault.{OpenFault}
@@ -19,7 +19,7 @@ fault_in (Err fault) = Some fault
 -- what is amiss with a number of places and a first mask
 abbrev pub opening_fault : ℕ → Option (List ℕ) → Option OpenFault
 opening_fault places mask =
-    if places == 0 || nat_lt 49152 places then Some open_fault.Places
+    if places == 0 || nat_lt most_places places then Some open_fault.Places
     else if not (mask_fits places mask) then Some open_fault.MaskLength
     else if mask_has_spare_bit places mask then Some open_fault.MaskSpareBit
     else None

@@ -1,7 +1,7 @@
 //! The receiving end.
 
 ghost use Rattle.std.specs.Prelude.{◌≡◌, ◌↔◌, ℕ, ◌<◌, ◌≤◌, ◌++◌, ◌∷◌, [], List, None, Err, Ok, length, drop, IfSome, IfOk, OnOk, OnErr};
-ghost use Rattle.bit_vectors.specs.Vectors.{IsPlaces, byte_count};
+ghost use Rattle.bit_vectors.specs.Vectors.{IsPlaces, byte_count, most_places};
 ghost use Rattle.ground_chain.specs.Reception.{next_judged};
 ghost use Rattle.ground_chain.specs.Reckoning.{HasJudged, Judges, Reckoning, nothing_judged};
 ghost use Rattle.ground_chain.specs.Report.{written_bytes};
@@ -11,7 +11,7 @@ ghost use Rattle.state_bytes.specs.Frames.{IsOther};
 ghost use Rattle.packet_calls.specs.Refusals.{fault_in, opening_fault, receiving_fault};
 
 use crate::fault::{LoadFault, OpenFault, ReceiveFault};
-use bit_vectors::byte_len;
+use bit_vectors::{MOST_PLACES, byte_len};
 use ground_chain::{Restored, Tallied, Verdict};
 use packet_decode::Decoder;
 use packet_store::{MOST_DATA_BYTES, MOST_PACKETS, PERIOD};
@@ -53,7 +53,7 @@ impl Receiver {
         ensures fault { (result ≡ Err OpenFault.NoMemory → ⊥) → fault_in result ≡ opening_fault places None }
         ensures no_memory { result ≡ Err OpenFault.NoMemory → opening_fault places None ≡ None }
     {
-        if places == 0 || places > 49152 {
+        if places == 0 || places > MOST_PLACES {
             return Err(OpenFault::Places);
         }
         let arrivals = Tallied::open(alloc, places)?;
@@ -164,7 +164,7 @@ impl Receiver {
     pub fn places(&self) -> u32
         ensures places { result ≡ self.now.reception.decoder.places }
         ensures some { 1 ≤ result }
-        ensures most { result ≤ 49152 }
+        ensures most { result ≤ most_places }
     {
         self.arrivals.decoder().content().len()
     }

@@ -1,7 +1,7 @@
 //! The sending end.
 
 ghost use Rattle.std.specs.Prelude.{◌≡◌, ◌↔◌, ◌+◌, ◌<◌, ◌≤◌, ◌++◌, Err, Ok, None, length, drop, take, IsTrue, IfSome, IfOk, OnOk, OnErr};
-ghost use Rattle.bit_vectors.specs.Vectors.{IsPlaces, byte_count};
+ghost use Rattle.bit_vectors.specs.Vectors.{IsPlaces, byte_count, most_places};
 ghost use Rattle.mask_update.specs.Histories.{History, no_steps};
 ghost use Rattle.packet_encode.specs.Encoder.{EncoderState, StandsFor};
 ghost use Rattle.packet_encode.specs.Packets.{with_next_input};
@@ -13,7 +13,7 @@ ghost use Rattle.packet_calls.specs.States.{AreOfSender, IsSenderState, sender_k
 ghost use Rattle.state_bytes.specs.Frames.{IsOther};
 
 use crate::fault::{LoadFault, OpenFault, SendFault};
-use bit_vectors::{BitPen, Bits, Flags, byte_len, has_spare_bit};
+use bit_vectors::{BitPen, Bits, Flags, MOST_PLACES, byte_len, has_spare_bit};
 use packet_encode::{Encoder, room};
 use packet_store::MOST_PACKETS;
 use state_bytes::{FRAME_BYTES, FrameFault, body_of, put_head, seal};
@@ -230,7 +230,7 @@ impl Sender {
     pub fn places(&self) -> u32
         ensures places { result ≡ length self.now.encoder.masks.mask }
         ensures some { 1 ≤ result }
-        ensures most { result ≤ 49152 }
+        ensures most { result ≤ most_places }
     {
         self.input.len()
     }
@@ -269,7 +269,7 @@ fn first_vector(alloc: Global, places: u32, mask: Option<&[u8]>) -> Result<Bits,
     ensures no_memory { result ≡ Err OpenFault.NoMemory
         → opening_fault places (given_mask mask.entry) ≡ None }
 {
-    if places == 0 || places > 49152 {
+    if places == 0 || places > MOST_PLACES {
         return Err(OpenFault::Places);
     }
     if !mask_fits(places, mask) {

@@ -2,7 +2,7 @@
 
 ghost use Rattle.std.specs.Prelude.{◌≡◌, ℕ, ◌*◌, ◌-◌, ◌<◌, ◌≤◌, ◌||◌, Bool, true, false, List, [], ◌∷◌, ◌++◌, length, count_by, Option, Some, None, IfSome, Result, Ok, Err};
 ghost use Rattle.bit_vectors.specs.Reading.{IsExact};
-ghost use Rattle.bit_vectors.specs.Vectors.{bits_of};
+ghost use Rattle.bit_vectors.specs.Vectors.{bits_of, most_places};
 ghost use Rattle.run_code.specs.Extraction.{SameOutside};
 ghost use Rattle.mask_update.specs.Histories.{History, IsValid, flags_at, input_at};
 ghost use Rattle.mask_update.specs.Masks.{mask_at};
@@ -105,7 +105,7 @@ pub fn parts_are_completed()
 /// The bits that are viable are those with which data of at most 65,536 bytes can begin that are written or listed. So the
 /// bits before a wrong one begin such data, and with it they begin none.
 pub fn viable_bits_begin_data()
-    ensures data { (f t : ℕ) (state : State) (bits : List Bool) → 1 ≤ f → f ≤ 49152
+    ensures data { (f t : ℕ) (state : State) (bits : List Bool) → 1 ≤ f → f ≤ most_places
         → IsState f state → length bits ≤ 8 * 65536 →
         Viable f state t bits → BeginReadable f state t bits }
     ensures viable { (f t : ℕ) (state : State) (bits : List Bool) → IsState f state →

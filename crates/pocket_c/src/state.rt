@@ -12,6 +12,7 @@ ghost use Rattle.pocket_c.specs.Statuses.{IsOneOf, status_number};
 
 use crate::held::{Handle, Held};
 use crate::status::CallStatus;
+use bit_vectors::MOST_PLACES;
 use packet_calls::{RECEIVER_KIND, SENDER_KIND, receiver_state_room, sender_state_room};
 use std::alloc::Global;
 
@@ -23,7 +24,7 @@ pub extern "C" fn pocket_state_bytes(places: u32, kind: u32) -> usize
     ensures other { kind ≢ sender_kind → kind ≢ receiver_kind → result ≡ 0 }
     ensures none { (IsPlaces places → ⊥) → result ≡ 0 }
 {
-    if places == 0 || places > 49152 {
+    if places == 0 || places > MOST_PLACES {
         return 0;
     }
     if kind == u32::from(SENDER_KIND) {

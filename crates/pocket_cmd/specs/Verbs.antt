@@ -1,6 +1,7 @@
 -- The verbs, and the keys that each of them has.
 use Rattle.std.specs.Prelude.{ℕ, Bool, true, false, List, [], ◌∷◌, codes, Option, Some, None, if◌then◌else◌}
 use Rattle.std.specs.Str.{bytes_eq}
+use Rattle.bit_vectors.specs.Vectors.{most_places}
 use Rattle.pocket_cmd.specs.declared.verbs.Verb.{Verb}
 use Rattle.pocket_cmd.specs.declared.verbs.Verb.TheVariants.{Compress, Play, Restore, Show, Trial, Multi, Late, Table, Forecast}
 use Rattle.pocket_cmd.specs.declared.verbs.Port.{Port}
@@ -39,7 +40,7 @@ optional key kind = record { key = key; kind = kind; is_needed = false }
 -- the keys of a verb
 abbrev pub verb_rows : Verb → List KeyRow
 verb_rows Compress =
-    needed (codes "in") (Name Input) ∷ needed (codes "out") (Name Output) ∷ needed (codes "bits") (Number 1 49152)
+    needed (codes "in") (Name Input) ∷ needed (codes "out") (Name Output) ∷ needed (codes "bits") (Number 1 most_places)
     ∷ needed (codes "apid") (Number 0 2046) ∷ needed (codes "robust") (Number 0 7) ∷ optional (codes "plan") (Name Side)
     ∷ optional (codes "mask") Mask ∷ []
 verb_rows Play =
@@ -47,9 +48,9 @@ verb_rows Play =
     ∷ needed (codes "script") (Name Side) ∷ needed (codes "apid") (Number 0 2046) ∷ []
 verb_rows Restore =
     needed (codes "in") (Name Input) ∷ needed (codes "out") (Name Output) ∷ needed (codes "report") (Name Report)
-    ∷ needed (codes "bits") (Number 1 49152) ∷ needed (codes "apid") (Number 0 2046) ∷ []
+    ∷ needed (codes "bits") (Number 1 most_places) ∷ needed (codes "apid") (Number 0 2046) ∷ []
 verb_rows Show =
-    needed (codes "in") (Name Input) ∷ needed (codes "out") (Name Output) ∷ needed (codes "bits") (Number 1 49152)
+    needed (codes "in") (Name Input) ∷ needed (codes "out") (Name Output) ∷ needed (codes "bits") (Number 1 most_places)
     ∷ needed (codes "apid") (Number 0 2046) ∷ []
 verb_rows Trial =
     needed (codes "out") (Name Output) ∷ needed (codes "seed") (Number 0 4294967295) ∷ needed (codes "packets") (Number 1 10000)
@@ -59,10 +60,10 @@ verb_rows Multi =
     ∷ needed (codes "streams") (Name Side) ∷ []
 verb_rows Late =
     needed (codes "in") (Name Input) ∷ needed (codes "out") (Name Output) ∷ needed (codes "report") (Name Report)
-    ∷ needed (codes "bits") (Number 1 49152) ∷ needed (codes "apid") (Number 0 2046) ∷ needed (codes "window") (Number 0 64) ∷ []
+    ∷ needed (codes "bits") (Number 1 most_places) ∷ needed (codes "apid") (Number 0 2046) ∷ needed (codes "window") (Number 0 64) ∷ []
 verb_rows Table =
     needed (codes "in") (Name Input) ∷ needed (codes "out") (Name Output) ∷ needed (codes "report") (Name Report)
-    ∷ needed (codes "fields") (Name Side) ∷ needed (codes "bits") (Number 1 49152) ∷ []
+    ∷ needed (codes "fields") (Name Side) ∷ needed (codes "bits") (Number 1 most_places) ∷ []
 verb_rows Forecast =
     needed (codes "out") (Name Output) ∷ needed (codes "packets") (Number 1 1000000) ∷ needed (codes "robust") (Number 0 7)
     ∷ needed (codes "plan") (Name Side) ∷ needed (codes "script") (Name Input) ∷ []

@@ -5,6 +5,7 @@ ghost use Rattle.pocket_cmd.specs.Verbs.{verb_of, verb_rows, view_row, kind_of, 
 
 use KeyRow::{Needed, Optional};
 use ValueKind::{Mask, Name, Number};
+use bit_vectors::MOST_PLACES;
 
 /// What the command is to do.
 #[derive(Clone, Copy, Debug, PartialEq, Eq)]
@@ -89,7 +90,7 @@ impl Verb {
             Verb::Compress => &[
                 Needed("in", Name(Port::Input)),
                 Needed("out", Name(Port::Output)),
-                Needed("bits", Number(1, 49_152)),
+                Needed("bits", Number(1, MOST_PLACES)),
                 Needed("apid", Number(0, 2046)),
                 Needed("robust", Number(0, 7)),
                 Optional("plan", Name(Port::Side)),
@@ -106,13 +107,13 @@ impl Verb {
                 Needed("in", Name(Port::Input)),
                 Needed("out", Name(Port::Output)),
                 Needed("report", Name(Port::Report)),
-                Needed("bits", Number(1, 49_152)),
+                Needed("bits", Number(1, MOST_PLACES)),
                 Needed("apid", Number(0, 2046)),
             ],
             Verb::Show => &[
                 Needed("in", Name(Port::Input)),
                 Needed("out", Name(Port::Output)),
-                Needed("bits", Number(1, 49_152)),
+                Needed("bits", Number(1, MOST_PLACES)),
                 Needed("apid", Number(0, 2046)),
             ],
             Verb::Trial => &[
@@ -132,7 +133,7 @@ impl Verb {
                 Needed("in", Name(Port::Input)),
                 Needed("out", Name(Port::Output)),
                 Needed("report", Name(Port::Report)),
-                Needed("bits", Number(1, 49_152)),
+                Needed("bits", Number(1, MOST_PLACES)),
                 Needed("apid", Number(0, 2046)),
                 Needed("window", Number(0, 64)),
             ],
@@ -141,7 +142,7 @@ impl Verb {
                 Needed("out", Name(Port::Output)),
                 Needed("report", Name(Port::Report)),
                 Needed("fields", Name(Port::Side)),
-                Needed("bits", Number(1, 49_152)),
+                Needed("bits", Number(1, MOST_PLACES)),
             ],
             Verb::Forecast => &[
                 Needed("out", Name(Port::Output)),

@@ -2,7 +2,7 @@
 use Rattle.std.specs.Prelude.{◌≡◌, ℕ, ◌+◌, ◌-◌, ◌*◌, ◌%◌, ◌^◌, ◌<◌, ◌≤◌, Bool, List, [], ◌∷◌, ◌++◌, length, map, take, reverse, if◌then◌else◌, slice_index}
 use Rattle.std.specs.Int.{bit_at}
 use Rattle.std.specs.Int.RustNames.{count_ones}
-use Rattle.bit_vectors.specs.Vectors.{number_bits}
+use Rattle.bit_vectors.specs.Vectors.{number_bits, most_places}
 use Rattle.run_code.specs.declared.descending.WordOnes.{WordOnes}
 
 -- the places of the ones of a list whose first bit has this place, the least first
@@ -28,7 +28,7 @@ ones_left v word = map (λ place. 64 * word.index + place) (places_down (number_
 
 -- a word with its ones, of a vector
 pub record AreWithin (v : List Bool) (word : WordOnes) : Type 0 where
-  pub vector : length v ≤ 49152
+  pub vector : length v ≤ most_places
   pub index : 64 * word.index < length v
   pub ones : word.ones < 2 ^ 64
 

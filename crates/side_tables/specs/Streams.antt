@@ -1,6 +1,7 @@
 -- Streams: an APID each, and the length of the vectors of its packets.
 use Rattle.std.specs.Prelude.{◌≡◌, ℕ, ◌<◌, ◌≤◌, nat_lt, Bool, not, ◌&&◌, ◌==◌, if◌then◌else◌, List, length, slice_index_or, All, position, Option, Some, None}
 use Rattle.std.specs.List.{list_any}
+use Rattle.bit_vectors.specs.Vectors.{most_places}
 use Rattle.side_tables.specs.declared.rows.StreamRow.{StreamRow}
 use Rattle.side_tables.specs.Grammar.{◌>>=◌, field_number}
 use Rattle.side_tables.specs.Texts.{Grammar, rows_of, bad_row}
@@ -23,7 +24,7 @@ stream_of rows apid = position (has_apid apid) rows
 pub record IsStreamRow (row : StreamRow) : Type 0 where
   pub apid : row.apid ≤ 2046
   pub some : 1 ≤ row.bits
-  pub most : row.bits ≤ 49152
+  pub most : row.bits ≤ most_places
 
 -- at most 64 streams, no two of which have one APID
 pub record AreStreams (rows : List StreamRow) : Type 0 where
@@ -40,7 +41,7 @@ abbrev pub stream_row_of : List (List ℕ) → Option StreamRow
 stream_row_of fields =
     if length fields == 2 then (do
       apid ← field_number fields 0 0 2046
-      bits ← field_number fields 1 1 49152
+      bits ← field_number fields 1 1 most_places
       Some (record { apid = apid; bits = bits }))
     else None
 

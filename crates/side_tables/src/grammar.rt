@@ -14,7 +14,7 @@ use crate::decimal::number;
 use crate::fault::RowFault;
 use crate::rows::{CopyRow, FlagRow, RobustRow, RowGrammar, ScheduleRow, StreamRow, TableRow};
 use crate::span::Span;
-use bit_vectors::Flags;
+use bit_vectors::{Flags, MOST_PLACES};
 use csv::ByteRecord;
 
 const SCHEDULE: &str =
@@ -228,7 +228,7 @@ fn stream_row(fields: &ByteRecord) -> Result<StreamRow, RowFault>
         return Err(RowFault("a row of streams is apid,bits"));
     }
     let apid = field_number(fields, 0, 0, 2046, APID)?;
-    let bits = field_number(fields, 1, 1, 49_152, BITS)?;
+    let bits = field_number(fields, 1, 1, MOST_PLACES, BITS)?;
     Ok(StreamRow {
         apid: apid as u16,
         bits,

@@ -1,6 +1,7 @@
 //! Streams: which APIDs a store's packets are restored from, and how long the vectors of each are.
 
 ghost use Rattle.std.specs.Prelude.{◌≡◌, ℕ, ◌<◌, ◌≤◌, ◌↔◌, length, Err, Some, None, IfOk, IfSome, OnOk};
+ghost use Rattle.bit_vectors.specs.Vectors.{most_places};
 ghost use Rattle.side_tables.specs.Streams.{AreStreams, AreIndexesOf, bad_stream_row, stream_at, stream_of, streams_of};
 
 use crate::fault::SideFault;
@@ -73,7 +74,7 @@ impl Streams {
         requires { index < length self.now }
         ensures bits { result ≡ (stream_at self.now index).bits }
         ensures some { 1 ≤ result }
-        ensures most { result ≤ 49152 }
+        ensures most { result ≤ most_places }
     {
         self.rows[index as usize].bits
     }
