@@ -530,123 +530,124 @@ static void code_f21(uint8_t *const m, const u32 last, u64 p0, u64 p1, u64 p2, u
 static void code_f22(uint8_t *const m, const u32 last, u64 p0, u64 p1);
 static void code_f23(uint8_t *const m, const u32 last, u64 p0, u64 p1, u64 p2, u64 p3, u64 p4, u64 p5);
 static void code_f24(uint8_t *const m, const u32 last, u64 p0, u64 p1, u64 p2, u64 p3, u64 p4);
-static void code_f25(uint8_t *const m, const u32 last, u64 p0, u64 p1);
+static void code_f25(uint8_t *const m, const u32 last, u64 p0, u64 p1, u32 p2);
 static void code_f26(uint8_t *const m, const u32 last, u64 p0, u64 p1);
-static u64 code_f27(uint8_t *const m, const u32 last, u64 p0, u64 p1, u64 p2, u64 p3, u64 p4);
-static void code_f28(uint8_t *const m, const u32 last, u64 p0, u64 p1, u64 p2, u64 p3, u32 p4, u64 p5, u64 p6);
-static void code_f29(uint8_t *const m, const u32 last, u64 p0, u64 p1, u32 p2);
+static void code_f27(uint8_t *const m, const u32 last, u64 p0, u64 p1);
+static u64 code_f28(uint8_t *const m, const u32 last, u64 p0, u64 p1, u64 p2, u64 p3, u64 p4);
+static void code_f29(uint8_t *const m, const u32 last, u64 p0, u64 p1, u64 p2, u64 p3, u32 p4, u64 p5, u64 p6);
 static void code_f30(uint8_t *const m, const u32 last, u64 p0, u64 p1, u64 p2, u64 p3, u32 p4, u64 p5, u64 p6);
 static void code_f31(uint8_t *const m, const u32 last, u64 p0, u64 p1, u32 p2);
-static void code_f32(uint8_t *const m, const u32 last, u64 p0, u32 p1);
+static void code_f32(uint8_t *const m, const u32 last, u64 p0, u64 p1, u32 p2);
 static void code_f33(uint8_t *const m, const u32 last, u64 p0, u32 p1);
-static void code_f34(uint8_t *const m, const u32 last, u64 p0, u64 p1, u64 p2, u64 p3, u64 p4);
-static void code_f35(uint8_t *const m, const u32 last, u64 p0, u64 p1, u64 p2, u32 p3, u64 p4);
-static u32 code_f36(uint8_t *const m, const u32 last, u64 p0, u32 p1, u64 p2, u32 p3);
-static void code_f37(uint8_t *const m, const u32 last, u64 p0, u64 p1, u32 p2);
-static void code_f38(uint8_t *const m, const u32 last, u64 p0, u64 p1, u64 p2, u64 p3, u64 p4);
-static void code_f39(uint8_t *const m, const u32 last, u64 p0, u64 p1);
-static u64 code_f40(uint8_t *const m, const u32 last, u64 p0, u64 p1);
-static void code_f41(uint8_t *const m, const u32 last, u64 p0, u64 p1);
-static u32 code_f42(uint8_t *const m, const u32 last, u64 p0, u64 p1, u64 p2, u64 p3, u64 p4, u32 p5);
-static u64 code_f43(uint8_t *const m, const u32 last, u64 p0, u64 p1, u32 p2, u64 p3, u64 p4, u64 p5);
-static void code_f44(uint8_t *const m, const u32 last, u64 p0);
-static u32 code_f45(uint8_t *const m, const u32 last, u64 p0);
-static void code_f46(uint8_t *const m, const u32 last, u64 p0, u32 p1, u64 p2, u64 p3);
-static u64 code_f47(uint8_t *const m, const u32 last, u64 p0, u64 p1, u64 p2);
-static u32 code_f48(uint8_t *const m, const u32 last, u64 p0, u64 p1, u64 p2, u64 p3);
-static u32 code_f49(uint8_t *const m, const u32 last, u64 p0, u64 p1, u64 p2, u64 p3, u32 p4, u32 p5, u64 p6, u64 p7);
-static void code_f50(uint8_t *const m, const u32 last, u64 p0, u64 p1, u64 p2, u64 p3, u64 p4, u32 p5);
-static void code_f51(uint8_t *const m, const u32 last, u64 p0, u64 p1, u64 p2, u64 p3, u64 p4);
-static u32 code_f52(uint8_t *const m, const u32 last, u64 p0, u64 p1, u64 p2, u64 p3);
-static void code_f53(uint8_t *const m, const u32 last, u64 p0, u32 p1, u64 p2, u64 p3);
-static void code_f54(uint8_t *const m, const u32 last, u64 p0, u64 p1);
-static void code_f55(uint8_t *const m, const u32 last, u64 p0, u64 p1, u32 p2, u64 p3);
-static u32 code_f56(uint8_t *const m, const u32 last, u64 p0);
-static u32 code_f57(uint8_t *const m, const u32 last, u64 p0, u64 p1);
-static void code_f58(uint8_t *const m, const u32 last, u64 p0, u64 p1, u32 p2, u64 p3, u64 p4);
-static void code_f59(uint8_t *const m, const u32 last, u64 p0, u64 p1, u64 p2, u64 p3);
-static void code_f60(uint8_t *const m, const u32 last, u64 p0, u64 p1, u64 p2);
-static void code_f61(uint8_t *const m, const u32 last, u64 p0, u32 p1, u32 p2, u32 p3, u64 p4, u64 p5);
-static void code_f62(uint8_t *const m, const u32 last, u64 p0, u64 p1, u64 p2);
-static void code_f63(uint8_t *const m, const u32 last, u64 p0, u32 p1, u64 p2);
-static void code_f64(uint8_t *const m, const u32 last, u64 p0, u32 p1, u32 p2);
-static void code_f65(uint8_t *const m, const u32 last, u64 p0, u32 p1, u32 p2, u32 p3, u32 p4, u64 p5);
-static void code_f66(uint8_t *const m, const u32 last, u64 p0, u64 p1);
-static void code_f67(uint8_t *const m, const u32 last, u64 p0, u64 p1, u64 p2, u64 p3);
-static void code_f68(uint8_t *const m, const u32 last, u64 p0, u64 p1);
-static u32 code_f69(uint8_t *const m, const u32 last, u64 p0);
-static void code_f70(uint8_t *const m, const u32 last, u64 p0);
+static void code_f34(uint8_t *const m, const u32 last, u64 p0, u32 p1);
+static void code_f35(uint8_t *const m, const u32 last, u64 p0, u64 p1, u64 p2, u64 p3, u64 p4);
+static void code_f36(uint8_t *const m, const u32 last, u64 p0, u64 p1, u64 p2, u32 p3, u64 p4);
+static u32 code_f37(uint8_t *const m, const u32 last, u64 p0, u32 p1, u64 p2, u32 p3);
+static void code_f38(uint8_t *const m, const u32 last, u64 p0, u64 p1, u32 p2);
+static void code_f39(uint8_t *const m, const u32 last, u64 p0, u64 p1, u64 p2, u64 p3, u64 p4);
+static void code_f40(uint8_t *const m, const u32 last, u64 p0, u64 p1);
+static u64 code_f41(uint8_t *const m, const u32 last, u64 p0, u64 p1);
+static void code_f42(uint8_t *const m, const u32 last, u64 p0, u64 p1);
+static u32 code_f43(uint8_t *const m, const u32 last, u64 p0, u64 p1, u64 p2, u64 p3, u64 p4, u32 p5);
+static u64 code_f44(uint8_t *const m, const u32 last, u64 p0, u64 p1, u32 p2, u64 p3, u64 p4, u64 p5);
+static void code_f45(uint8_t *const m, const u32 last, u64 p0);
+static u32 code_f46(uint8_t *const m, const u32 last, u64 p0);
+static void code_f47(uint8_t *const m, const u32 last, u64 p0, u32 p1, u64 p2, u64 p3);
+static u64 code_f48(uint8_t *const m, const u32 last, u64 p0, u64 p1, u64 p2);
+static u32 code_f49(uint8_t *const m, const u32 last, u64 p0, u64 p1, u64 p2, u64 p3);
+static u32 code_f50(uint8_t *const m, const u32 last, u64 p0, u64 p1, u64 p2, u64 p3, u32 p4, u32 p5, u64 p6, u64 p7);
+static void code_f51(uint8_t *const m, const u32 last, u64 p0, u64 p1, u64 p2, u64 p3, u64 p4, u32 p5);
+static void code_f52(uint8_t *const m, const u32 last, u64 p0, u64 p1, u64 p2, u64 p3, u64 p4);
+static u32 code_f53(uint8_t *const m, const u32 last, u64 p0, u64 p1, u64 p2, u64 p3);
+static void code_f54(uint8_t *const m, const u32 last, u64 p0, u32 p1, u64 p2, u64 p3);
+static void code_f55(uint8_t *const m, const u32 last, u64 p0, u64 p1);
+static void code_f56(uint8_t *const m, const u32 last, u64 p0, u64 p1, u32 p2, u64 p3);
+static u32 code_f57(uint8_t *const m, const u32 last, u64 p0);
+static u32 code_f58(uint8_t *const m, const u32 last, u64 p0, u64 p1);
+static void code_f59(uint8_t *const m, const u32 last, u64 p0, u64 p1, u32 p2, u64 p3, u64 p4);
+static void code_f60(uint8_t *const m, const u32 last, u64 p0, u64 p1, u64 p2, u64 p3);
+static void code_f61(uint8_t *const m, const u32 last, u64 p0, u64 p1, u64 p2);
+static void code_f62(uint8_t *const m, const u32 last, u64 p0, u32 p1, u32 p2, u32 p3, u64 p4, u64 p5);
+static void code_f63(uint8_t *const m, const u32 last, u64 p0, u64 p1, u64 p2);
+static void code_f64(uint8_t *const m, const u32 last, u64 p0, u32 p1, u64 p2);
+static void code_f65(uint8_t *const m, const u32 last, u64 p0, u32 p1, u32 p2);
+static void code_f66(uint8_t *const m, const u32 last, u64 p0, u32 p1, u32 p2, u32 p3, u32 p4, u64 p5);
+static void code_f67(uint8_t *const m, const u32 last, u64 p0, u64 p1);
+static void code_f68(uint8_t *const m, const u32 last, u64 p0, u64 p1, u64 p2, u64 p3);
+static void code_f69(uint8_t *const m, const u32 last, u64 p0, u64 p1);
+static u32 code_f70(uint8_t *const m, const u32 last, u64 p0);
 static void code_f71(uint8_t *const m, const u32 last, u64 p0);
-static u32 code_f72(uint8_t *const m, const u32 last, u64 p0, u64 p1);
-static u32 code_f73(uint8_t *const m, const u32 last, u64 p0);
+static void code_f72(uint8_t *const m, const u32 last, u64 p0);
+static u32 code_f73(uint8_t *const m, const u32 last, u64 p0, u64 p1);
 static u32 code_f74(uint8_t *const m, const u32 last, u64 p0);
 static u32 code_f75(uint8_t *const m, const u32 last, u64 p0);
 static u32 code_f76(uint8_t *const m, const u32 last, u64 p0);
-static void code_f77(uint8_t *const m, const u32 last, u64 p0, u64 p1);
+static u32 code_f77(uint8_t *const m, const u32 last, u64 p0);
 static void code_f78(uint8_t *const m, const u32 last, u64 p0, u64 p1);
 static void code_f79(uint8_t *const m, const u32 last, u64 p0, u64 p1);
-static void code_f80(uint8_t *const m, const u32 last, u64 p0, u64 p1, u64 p2);
-static u32 code_f81(uint8_t *const m, const u32 last, u64 p0);
-static u32 code_f82(uint8_t *const m, const u32 last, u64 p0, u64 p1);
+static void code_f80(uint8_t *const m, const u32 last, u64 p0, u64 p1);
+static void code_f81(uint8_t *const m, const u32 last, u64 p0, u64 p1, u64 p2);
+static u32 code_f82(uint8_t *const m, const u32 last, u64 p0);
 static u32 code_f83(uint8_t *const m, const u32 last, u64 p0, u64 p1);
-static void code_f84(uint8_t *const m, const u32 last, u64 p0, u64 p1, u64 p2);
-static void code_f85(uint8_t *const m, const u32 last, u64 p0, u32 p1, u64 p2);
-static void code_f86(uint8_t *const m, const u32 last, u64 p0, u64 p1, u64 p2);
-static void code_f87(uint8_t *const m, const u32 last, u64 p0, u64 p1);
-static void code_f88(uint8_t *const m, const u32 last, u64 p0, u64 p1, u64 p2);
-static void code_f89(uint8_t *const m, const u32 last, u64 p0, u64 p1);
+static u32 code_f84(uint8_t *const m, const u32 last, u64 p0, u64 p1);
+static void code_f85(uint8_t *const m, const u32 last, u64 p0, u64 p1, u64 p2);
+static void code_f86(uint8_t *const m, const u32 last, u64 p0, u32 p1, u64 p2);
+static void code_f87(uint8_t *const m, const u32 last, u64 p0, u64 p1, u64 p2);
+static void code_f88(uint8_t *const m, const u32 last, u64 p0, u64 p1);
+static void code_f89(uint8_t *const m, const u32 last, u64 p0, u64 p1, u64 p2);
 static void code_f90(uint8_t *const m, const u32 last, u64 p0, u64 p1);
-static u32 code_f91(uint8_t *const m, const u32 last, u64 p0, u64 p1);
+static void code_f91(uint8_t *const m, const u32 last, u64 p0, u64 p1);
 static u32 code_f92(uint8_t *const m, const u32 last, u64 p0, u64 p1);
-static void code_f93(uint8_t *const m, const u32 last, u64 p0, u64 p1);
-static u32 code_f94(uint8_t *const m, const u32 last, u64 p0);
-static u32 code_f95(uint8_t *const m, const u32 last, u64 p0, u64 p1, u64 p2);
-static void code_f96(uint8_t *const m, const u32 last, u64 p0, u64 p1, u64 p2);
+static u32 code_f93(uint8_t *const m, const u32 last, u64 p0, u64 p1);
+static void code_f94(uint8_t *const m, const u32 last, u64 p0, u64 p1);
+static u32 code_f95(uint8_t *const m, const u32 last, u64 p0);
+static u32 code_f96(uint8_t *const m, const u32 last, u64 p0, u64 p1, u64 p2);
 static void code_f97(uint8_t *const m, const u32 last, u64 p0, u64 p1, u64 p2);
 static void code_f98(uint8_t *const m, const u32 last, u64 p0, u64 p1, u64 p2);
-static u32 code_f99(uint8_t *const m, const u32 last, u64 p0, u64 p1);
-static void code_f100(uint8_t *const m, const u32 last, u64 p0, u64 p1);
-static void code_f101(uint8_t *const m, const u32 last, u64 p0, u64 p1, u64 p2, u32 p3, u64 p4);
-static u32 code_f102(uint8_t *const m, const u32 last, u64 p0);
-static void code_f103(uint8_t *const m, const u32 last, u64 p0, u64 p1, u64 p2);
-static void code_f104(uint8_t *const m, const u32 last, u64 p0, u64 p1);
-static void code_f105(uint8_t *const m, const u32 last, u64 p0, u64 p1, u64 p2, u32 p3);
-static void code_f106(uint8_t *const m, const u32 last, u64 p0, u64 p1, u64 p2);
-static void code_f107(uint8_t *const m, const u32 last, u64 p0, u64 p1, u64 p2, u64 p3, u32 p4);
-static void code_f108(uint8_t *const m, const u32 last, u64 p0, u64 p1, u64 p2);
-static u64 code_f109(uint8_t *const m, const u32 last, u64 p0, u64 p1, u64 p2, u64 p3);
-static u64 code_f110(uint8_t *const m, const u32 last, u64 p0, u64 p1, u64 p2, u64 p3, u64 p4);
-static u32 code_f111(uint8_t *const m, const u32 last, u64 p0, u64 p1);
-static u32 code_f112(uint8_t *const m, const u32 last, u64 p0, u64 p1, u64 p2, u64 p3, u64 p4);
-static u32 code_f113(uint8_t *const m, const u32 last, u64 p0);
-static void code_f114(uint8_t *const m, const u32 last, u64 p0, u64 p1, u64 p2, u64 p3, u64 p4, u64 p5);
-static void code_f115(uint8_t *const m, const u32 last, u64 p0, u64 p1, u64 p2);
-static void code_f116(uint8_t *const m, const u32 last, u64 p0, u64 p1, u32 p2);
-static void code_f117(uint8_t *const m, const u32 last, u64 p0, u64 p1, u32 p2, u64 p3, u64 p4);
-static void code_f118(uint8_t *const m, const u32 last, u64 p0);
-static void code_f119(uint8_t *const m, const u32 last, u64 p0, u64 p1, u64 p2, u64 p3, u64 p4, u64 p5, u64 p6, u64 p7);
-static u32 code_f120(uint8_t *const m, const u32 last, u64 p0, u32 p1);
-static u32 code_f121(uint8_t *const m, const u32 last, u64 p0, u64 p1);
-static void code_f122(uint8_t *const m, const u32 last, u64 p0, u64 p1);
+static void code_f99(uint8_t *const m, const u32 last, u64 p0, u64 p1, u64 p2);
+static u32 code_f100(uint8_t *const m, const u32 last, u64 p0, u64 p1);
+static void code_f101(uint8_t *const m, const u32 last, u64 p0, u64 p1);
+static void code_f102(uint8_t *const m, const u32 last, u64 p0, u64 p1, u64 p2, u32 p3, u64 p4);
+static u32 code_f103(uint8_t *const m, const u32 last, u64 p0);
+static void code_f104(uint8_t *const m, const u32 last, u64 p0, u64 p1, u64 p2);
+static void code_f105(uint8_t *const m, const u32 last, u64 p0, u64 p1);
+static void code_f106(uint8_t *const m, const u32 last, u64 p0, u64 p1, u64 p2, u32 p3);
+static void code_f107(uint8_t *const m, const u32 last, u64 p0, u64 p1, u64 p2);
+static void code_f108(uint8_t *const m, const u32 last, u64 p0, u64 p1, u64 p2, u64 p3, u32 p4);
+static void code_f109(uint8_t *const m, const u32 last, u64 p0, u64 p1, u64 p2);
+static u64 code_f110(uint8_t *const m, const u32 last, u64 p0, u64 p1, u64 p2, u64 p3);
+static u64 code_f111(uint8_t *const m, const u32 last, u64 p0, u64 p1, u64 p2, u64 p3, u64 p4);
+static u32 code_f112(uint8_t *const m, const u32 last, u64 p0, u64 p1);
+static u32 code_f113(uint8_t *const m, const u32 last, u64 p0, u64 p1, u64 p2, u64 p3, u64 p4);
+static u32 code_f114(uint8_t *const m, const u32 last, u64 p0);
+static void code_f115(uint8_t *const m, const u32 last, u64 p0, u64 p1, u64 p2, u64 p3, u64 p4, u64 p5);
+static void code_f116(uint8_t *const m, const u32 last, u64 p0, u64 p1, u64 p2);
+static void code_f117(uint8_t *const m, const u32 last, u64 p0, u64 p1, u32 p2);
+static void code_f118(uint8_t *const m, const u32 last, u64 p0, u64 p1, u32 p2, u64 p3, u64 p4);
+static void code_f119(uint8_t *const m, const u32 last, u64 p0);
+static void code_f120(uint8_t *const m, const u32 last, u64 p0, u64 p1, u64 p2, u64 p3, u64 p4, u64 p5, u64 p6, u64 p7);
+static u32 code_f121(uint8_t *const m, const u32 last, u64 p0, u32 p1);
+static u32 code_f122(uint8_t *const m, const u32 last, u64 p0, u64 p1);
 static void code_f123(uint8_t *const m, const u32 last, u64 p0, u64 p1);
 static void code_f124(uint8_t *const m, const u32 last, u64 p0, u64 p1);
-static u32 code_f125(uint8_t *const m, const u32 last, u64 p0, u64 p1);
-static u32 code_f126(uint8_t *const m, const u32 last, u64 p0, u32 p1, u64 p2, u64 p3);
-static void code_f127(uint8_t *const m, const u32 last, u64 p0, u64 p1, u64 p2, u64 p3, u64 p4);
-static void code_f128(uint8_t *const m, const u32 last, u64 p0, u64 p1, u64 p2);
-static void code_f129(uint8_t *const m, const u32 last, u64 p0, u64 p1, u64 p2, u64 p3, u64 p4);
-static void code_f130(uint8_t *const m, const u32 last, u64 p0, u64 p1, u64 p2);
-static u32 code_f131(uint8_t *const m, const u32 last, u64 p0, u64 p1);
-static void code_f132(uint8_t *const m, const u32 last, u64 p0, u64 p1);
-static u32 code_f133(uint8_t *const m, const u32 last, u64 p0, u64 p1);
+static void code_f125(uint8_t *const m, const u32 last, u64 p0, u64 p1);
+static u32 code_f126(uint8_t *const m, const u32 last, u64 p0, u64 p1);
+static u32 code_f127(uint8_t *const m, const u32 last, u64 p0, u32 p1, u64 p2, u64 p3);
+static void code_f128(uint8_t *const m, const u32 last, u64 p0, u64 p1, u64 p2, u64 p3, u64 p4);
+static void code_f129(uint8_t *const m, const u32 last, u64 p0, u64 p1, u64 p2);
+static void code_f130(uint8_t *const m, const u32 last, u64 p0, u64 p1, u64 p2, u64 p3, u64 p4);
+static void code_f131(uint8_t *const m, const u32 last, u64 p0, u64 p1, u64 p2);
+static u32 code_f132(uint8_t *const m, const u32 last, u64 p0, u64 p1);
+static void code_f133(uint8_t *const m, const u32 last, u64 p0, u64 p1);
 static u32 code_f134(uint8_t *const m, const u32 last, u64 p0, u64 p1);
-static u32 code_f135(uint8_t *const m, const u32 last, u64 p0, u32 p1, u64 p2);
-static u32 code_f136(uint8_t *const m, const u32 last, u64 p0, u64 p1, u64 p2, u64 p3, u64 p4);
+static u32 code_f135(uint8_t *const m, const u32 last, u64 p0, u64 p1);
+static u32 code_f136(uint8_t *const m, const u32 last, u64 p0, u32 p1, u64 p2);
 static u32 code_f137(uint8_t *const m, const u32 last, u64 p0, u64 p1, u64 p2, u64 p3, u64 p4);
-static u32 code_f138(uint8_t *const m, const u32 last, u64 p0, u64 p1, u64 p2, u64 p3);
-static void code_f139(uint8_t *const m, const u32 last, u64 p0);
+static u32 code_f138(uint8_t *const m, const u32 last, u64 p0, u64 p1, u64 p2, u64 p3, u64 p4);
+static u32 code_f139(uint8_t *const m, const u32 last, u64 p0, u64 p1, u64 p2, u64 p3);
 static void code_f140(uint8_t *const m, const u32 last, u64 p0);
 static void code_f141(uint8_t *const m, const u32 last, u64 p0);
+static void code_f142(uint8_t *const m, const u32 last, u64 p0);
 static u32 code_pocket_desk_open(uint8_t *const m, const u32 last, u64 p0);
 static u32 code_pocket_put(uint8_t *const m, const u32 last, u64 p0, u64 p1, u64 p2, u64 p3, u64 p4);
 static u32 code_pocket_word(uint8_t *const m, const u32 last, u64 p0, u64 p1, u64 p2);
@@ -8990,46 +8991,49 @@ static u64 code_f17(uint8_t *const m, const u32 last, u64 p0, u64 p1, u32 p2) {
 }
 
 static void code_f18(uint8_t *const m, const u32 last, u64 p0, u64 p1, u64 p2) {
-  u32 l6 = 0, l7 = 0, l8 = 0, l9 = 0, l10 = 0, l11 = 0, l12 = 0, l13 = 0, l14 = 0, l15 = 0;
-  u64 l3 = 0, l4 = 0, l5 = 0;
+  u32 l7 = 0, l8 = 0, l9 = 0, l10 = 0, l11 = 0, l12 = 0;
+  u64 l3 = 0, l4 = 0, l5 = 0, l6 = 0;
   u32 i0, i1, i2, i3, i4;
   u64 j0, j1, j2, j3, j4, j5;
-  uint8_t *a0, *a1, *a2;
+  uint8_t *frame, *a1, *a2, *a3, *a4;
+  enter(l3, 16);
+  frame = place(l3);
+  j0 = l3;
   j0 = p2;
   j1 = 8ull;
   j0 += j1;
   i0 = (u32)(j0);
   i64_load(j0, i0, 0);
-  l3 = j0;
+  l4 = j0;
   i0 = !(j0);
   if (i0) {goto B0;}
   j0 = p2;
   i0 = (u32)(j0);
   i64_load(j0, i0, 0);
-  l4 = j0;
-  j0 = l3;
+  l5 = j0;
+  j0 = l4;
   j1 = 18446744073709551615ull;
   j0 += j1;
-  l5 = j0;
+  l6 = j0;
   i0 = !(j0);
   if (i0) {goto B1;}
-  j0 = l3;
+  j0 = l4;
   j1 = 3ull;
   j0 <<= (j1 & 63);
   j1 = 18446744073709551608ull;
   j0 += j1;
-  l3 = j0;
+  l4 = j0;
   i0 = !(j0);
   if (i0) {goto B1;}
-  j0 = l4;
+  j0 = l5;
   i0 = (u32)(j0);
   i1 = 0u;
-  j2 = l3;
+  j2 = l4;
   i2 = (u32)(j2);
   memory_fill(i0, i1, i2);
   B1:;
-  j0 = l4;
-  j1 = l5;
+  j0 = l5;
+  j1 = l6;
   j2 = 3ull;
   j1 <<= (j2 & 63);
   j0 += j1;
@@ -9042,269 +9046,78 @@ static void code_f18(uint8_t *const m, const u32 last, u64 p0, u64 p1, u64 p2) {
   j0 += j1;
   i0 = (u32)(j0);
   i32_load(i0, i0, 0);
-  l6 = i0;
-  L4:
-    i0 = 0u;
-    j1 = p1;
-    j2 = 8ull;
-    j1 += j2;
-    i1 = (u32)(j1);
-    reach(a0, i1, 0, 4);
-    i64_load_at(j1, a0, 0);
-    l4 = j1;
-    i1 = (u32)(j1);
-    l7 = i1;
-    i2 = 3u;
-    i1 <<= (i2 & 31);
-    l8 = i1;
-    i2 = 4294967232u;
-    i1 += i2;
-    l9 = i1;
-    i2 = l9;
-    i3 = l8;
-    i2 = i2 > i3;
-    i0 = i2 ? i0 : i1;
-    l10 = i0;
-    i0 = l8;
-    j1 = p1;
-    j2 = 16ull;
-    j1 += j2;
-    i1 = (u32)(j1);
-    i32_load_at(i1, a0, 8);
-    l9 = i1;
-    i0 -= i1;
-    l11 = i0;
-    i1 = 2u;
-    i0 = i0 < i1;
-    if (i0) {goto B5;}
-    i0 = l9;
-    i1 = l10;
-    i0 = i0 >= i1;
-    if (i0) {goto B7;}
-    j0 = p1;
-    i0 = (u32)(j0);
-    i64_load(j0, i0, 0);
-    i1 = l9;
-    i2 = 3u;
-    i1 >>= (i2 & 31);
-    j1 = (u64)(i1);
-    l3 = j1;
-    j0 += j1;
-    j1 = l4;
-    j2 = l3;
-    j1 -= j2;
-    i2 = l9;
-    i3 = 7u;
-    i2 &= i3;
-    call(j0 = code_f17(m, last, j0, j1, i2));
-    l3 = j0;
-    goto B6;
-    B7:;
-    i0 = l9;
-    i1 = l10;
-    i0 -= i1;
-    l12 = i0;
-    i1 = 64u;
-    i0 = i0 == i1;
-    if (i0) {goto B5;}
-    j0 = p1;
-    j1 = 24ull;
-    j0 += j1;
-    i0 = (u32)(j0);
-    i64_load(j0, i0, 0);
-    i1 = l12;
-    j1 = (u64)(i1);
-    j0 <<= (j1 & 63);
-    l3 = j0;
-    B6:;
+  l7 = i0;
+  j0 = 0ull;
+  l4 = j0;
+  i0 = 0u;
+  l8 = i0;
+  L3:
     j0 = l3;
-    j1 = 13835058055282163711ull;
-    i0 = (u64)((s64)j0 > (s64)j1);
-    if (i0) {goto B5;}
+    i0 = (u32)(j0);
+    i1 = 0u;
+    i32_store_at(i1, frame, 8);
+    j0 = l3;
+    i0 = (u32)(j0);
+    j1 = 0ull;
+    i64_store_at(j1, frame, 0);
+    i0 = l8;
+    i1 = 28u;
+    i0 = i0 > i1;
+    if (i0) {goto B4;}
     j0 = p1;
     j1 = 16ull;
     j0 += j1;
     i0 = (u32)(j0);
-    i1 = l9;
-    i2 = 2u;
-    i1 += i2;
-    i32_store_at(i1, a0, 8);
-    i0 = 0u;
-    l12 = i0;
-    i0 = 0u;
-    l13 = i0;
-    i0 = 0u;
-    l10 = i0;
-    goto B2;
-    B5:;
-    i0 = l9;
-    i1 = l10;
+    reach(a1, i0, -8, 4);
+    i32_load_at(i0, a1, 8);
+    l8 = i0;
+    i1 = 0u;
+    j2 = p1;
+    j3 = 8ull;
+    j2 += j3;
+    i2 = (u32)(j2);
+    i64_load_at(j2, a1, 0);
+    l4 = j2;
+    i2 = (u32)(j2);
+    i3 = 3u;
+    i2 <<= (i3 & 31);
+    l9 = i2;
+    i3 = 4294967232u;
+    i2 += i3;
+    l10 = i2;
+    i3 = l10;
+    i4 = l9;
+    i3 = i3 > i4;
+    i1 = i3 ? i1 : i2;
+    l10 = i1;
     i0 = i0 >= i1;
-    if (i0) {goto B15;}
+    if (i0) {goto B6;}
     j0 = p1;
     i0 = (u32)(j0);
     i64_load(j0, i0, 0);
-    i1 = l9;
+    i1 = l8;
     i2 = 3u;
     i1 >>= (i2 & 31);
     j1 = (u64)(i1);
-    l3 = j1;
+    l5 = j1;
     j0 += j1;
     j1 = l4;
-    j2 = l3;
+    j2 = l5;
     j1 -= j2;
-    i2 = l9;
+    i2 = l8;
     i3 = 7u;
     i2 &= i3;
     call(j0 = code_f17(m, last, j0, j1, i2));
-    l3 = j0;
-    goto B14;
-    B15:;
-    i0 = l9;
-    i1 = l10;
-    i0 -= i1;
-    l12 = i0;
-    i1 = 64u;
-    i0 = i0 == i1;
-    if (i0) {goto B13;}
-    j0 = p1;
-    j1 = 24ull;
-    j0 += j1;
-    i0 = (u32)(j0);
-    i64_load(j0, i0, 0);
-    i1 = l12;
-    j1 = (u64)(i1);
-    j0 <<= (j1 & 63);
-    l3 = j0;
-    B14:;
-    j0 = l3;
-    j1 = 18446744073709551615ull;
-    i0 = (u64)((s64)j0 <= (s64)j1);
-    if (i0) {goto B17;}
-    i0 = 0u;
-    l14 = i0;
-    i0 = 1u;
-    l12 = i0;
-    i0 = 1u;
-    l15 = i0;
-    goto B16;
-    B17:;
-    j0 = l3;
-    j1 = 16140901064495857664ull;
-    j0 &= j1;
-    j1 = 13835058055282163712ull;
-    i0 = j0 != j1;
-    if (i0) {goto B20;}
-    j0 = l3;
-    j1 = 56ull;
-    j0 >>= (j1 & 63);
-    i0 = (u32)(j0);
-    i1 = 31u;
-    i0 &= i1;
-    l14 = i0;
-    i1 = 2u;
-    i0 += i1;
-    l12 = i0;
-    goto B19;
-    B20:;
-    j0 = l3;
-    j1 = 3ull;
-    j0 <<= (j1 & 63);
-    l3 = j0;
-    i1 = 58u;
-    j2 = l3;
-    j2 = I64_CLZ(j2);
-    l3 = j2;
-    i2 = (u32)(j2);
-    i3 = 10u;
-    j4 = l3;
-    j5 = 10ull;
-    i4 = j4 < j5;
-    i2 = i4 ? i2 : i3;
-    i3 = 1u;
-    i2 <<= (i3 & 31);
-    i1 -= i2;
-    j1 = (u64)(i1);
-    j0 >>= (j1 & 63);
-    l3 = j0;
-    j1 = 49150ull;
-    j2 = l3;
-    j3 = 49150ull;
-    i2 = j2 < j3;
-    j0 = i2 ? j0 : j1;
-    i0 = (u32)(j0);
-    l14 = i0;
-    i1 = 2u;
-    i0 += i1;
-    l12 = i0;
-    j0 = l3;
-    j1 = 31ull;
-    i0 = j0 > j1;
-    if (i0) {goto B18;}
-    B19:;
-    i0 = l14;
-    i1 = 192u;
-    i0 |= i1;
-    l14 = i0;
-    i0 = 8u;
-    l15 = i0;
-    goto B16;
-    B18:;
-    i0 = 61u;
-    i1 = l14;
-    i1 = I32_CLZ(i1);
-    i2 = 1u;
-    i1 <<= (i2 & 31);
-    l13 = i1;
-    i0 -= i1;
-    l15 = i0;
-    i0 = 7u;
-    i1 = 58u;
-    i2 = l13;
-    i1 -= i2;
-    i0 <<= (i1 & 31);
-    i1 = l14;
-    i0 += i1;
-    l14 = i0;
-    B16:;
-    i0 = l12;
-    i1 = l6;
-    i0 = i0 > i1;
-    if (i0) {goto B10;}
-    i0 = l15;
-    i1 = l11;
-    i0 = i0 <= i1;
-    if (i0) {goto B12;}
-    goto B10;
-    B13:;
-    i0 = l6;
-    i0 = !(i0);
-    if (i0) {goto B10;}
-    i0 = l8;
-    i1 = l9;
-    i0 = i0 == i1;
-    if (i0) {goto B10;}
-    j0 = 0ull;
-    l3 = j0;
-    i0 = 0u;
-    l14 = i0;
-    i0 = 1u;
-    l12 = i0;
-    i0 = 1u;
-    l15 = i0;
-    goto B11;
-    B12:;
-    i0 = l9;
-    i1 = l10;
-    i0 = i0 < i1;
-    if (i0) {goto B21;}
+    l4 = j0;
+    goto B5;
+    B6:;
     j0 = 0ull;
     j1 = p1;
     j2 = 24ull;
     j1 += j2;
     i1 = (u32)(j1);
     i64_load(j1, i1, 0);
-    i2 = l9;
+    i2 = l8;
     i3 = l10;
     i2 -= i3;
     l10 = i2;
@@ -9314,631 +9127,260 @@ static void code_f18(uint8_t *const m, const u32 last, u64 p0, u64 p1, u64 p2) {
     i3 = 64u;
     i2 = i2 == i3;
     j0 = i2 ? j0 : j1;
-    l3 = j0;
-    goto B11;
-    B21:;
-    j0 = p1;
-    i0 = (u32)(j0);
-    i64_load(j0, i0, 0);
-    i1 = l9;
-    i2 = 3u;
-    i1 >>= (i2 & 31);
-    j1 = (u64)(i1);
-    l3 = j1;
-    j0 += j1;
-    j1 = l4;
-    j2 = l3;
-    j1 -= j2;
-    i2 = l9;
-    i3 = 7u;
-    i2 &= i3;
-    call(j0 = code_f17(m, last, j0, j1, i2));
-    l3 = j0;
-    B11:;
-    j0 = l3;
+    l4 = j0;
+    B5:;
+    i0 = l9;
+    i1 = l8;
+    i0 -= i1;
+    l8 = i0;
     i1 = 64u;
-    i2 = l15;
+    i2 = l8;
+    i3 = 64u;
+    i2 = i2 < i3;
+    i0 = i2 ? i0 : i1;
+    l8 = i0;
+    B4:;
+    i0 = l7;
+    i0 = !(i0);
+    if (i0) {goto B11;}
+    i0 = l8;
+    i0 = !(i0);
+    if (i0) {goto B11;}
+    j0 = l4;
+    j1 = 18446744073709551615ull;
+    i0 = (u64)((s64)j0 <= (s64)j1);
+    if (i0) {goto B11;}
+    i0 = 1u;
+    l10 = i0;
+    i0 = 0u;
+    l11 = i0;
+    i0 = 1u;
+    l9 = i0;
+    goto B10;
+    B11:;
+    i0 = 2u;
+    l9 = i0;
+    i0 = l8;
+    i1 = 2u;
+    i0 = i0 < i1;
+    if (i0) {goto B12;}
+    j0 = l4;
+    j1 = 13835058055282163712ull;
+    i0 = (u64)((s64)j0 >= (s64)j1);
+    if (i0) {goto B12;}
+    i0 = 0u;
+    l10 = i0;
+    i0 = 1u;
+    l11 = i0;
+    goto B10;
+    B12:;
+    j0 = l4;
+    j1 = 16140901064495857664ull;
+    j0 &= j1;
+    j1 = 13835058055282163712ull;
+    i0 = j0 != j1;
+    if (i0) {goto B16;}
+    j0 = l4;
+    j1 = 56ull;
+    j0 >>= (j1 & 63);
+    i0 = (u32)(j0);
+    i1 = 31u;
+    i0 &= i1;
+    l11 = i0;
+    i1 = 2u;
+    i0 += i1;
+    l10 = i0;
+    goto B15;
+    B16:;
+    j0 = l4;
+    j1 = 3ull;
+    j0 <<= (j1 & 63);
+    l5 = j0;
+    i1 = 58u;
+    j2 = l5;
+    j2 = I64_CLZ(j2);
+    l5 = j2;
+    i2 = (u32)(j2);
+    i3 = 10u;
+    j4 = l5;
+    j5 = 10ull;
+    i4 = j4 < j5;
+    i2 = i4 ? i2 : i3;
+    i3 = 1u;
+    i2 <<= (i3 & 31);
     i1 -= i2;
     j1 = (u64)(i1);
     j0 >>= (j1 & 63);
-    i1 = l14;
-    j1 = (u64)(i1);
-    j2 = 18446744073709551615ull;
-    i3 = l15;
-    j3 = (u64)(i3);
-    j2 <<= (j3 & 63);
-    j3 = 18446744073709551615ull;
-    j2 ^= j3;
-    j1 &= j2;
-    i0 = j0 != j1;
-    if (i0) {goto B10;}
-    j0 = p1;
-    j1 = 16ull;
-    j0 += j1;
+    l5 = j0;
+    j1 = 49150ull;
+    j2 = l5;
+    j3 = 49150ull;
+    i2 = j2 < j3;
+    j0 = i2 ? j0 : j1;
     i0 = (u32)(j0);
-    i1 = l15;
-    i2 = l9;
-    i1 += i2;
-    i32_store_at(i1, a0, 8);
-    goto B9;
-    B10:;
-    i0 = l8;
-    i1 = l9;
-    i0 = i0 != i1;
-    if (i0) {goto B22;}
-    i0 = 1u;
-    l12 = i0;
-    i0 = 1u;
-    l13 = i0;
-    i0 = l9;
-    l10 = i0;
-    goto B2;
-    B22:;
-    j0 = p1;
-    i0 = (u32)(j0);
-    i64_load(j0, i0, 0);
-    l3 = j0;
-    i1 = l9;
-    i2 = 3u;
-    i1 >>= (i2 & 31);
-    j1 = (u64)(i1);
-    j0 += j1;
-    i0 = (u32)(j0);
-    i32_load8_u(i0, i0, 0);
-    l10 = i0;
-    i0 = 1u;
-    l12 = i0;
-    j0 = p1;
-    j1 = 16ull;
-    j0 += j1;
-    i0 = (u32)(j0);
-    i1 = l9;
-    i2 = 1u;
-    i1 += i2;
-    l15 = i1;
-    i32_store_at(i1, a0, 8);
-    i0 = l10;
-    i1 = l9;
-    i2 = 4294967295u;
-    i1 ^= i2;
-    i2 = 7u;
-    i1 &= i2;
-    i0 >>= (i1 & 31);
-    i1 = 1u;
-    i0 &= i1;
-    i0 = !(i0);
-    if (i0) {goto B24;}
-    i0 = l15;
-    i1 = l8;
-    i0 = i0 == i1;
-    if (i0) {goto B8;}
-    j0 = l3;
-    i1 = l15;
-    i2 = 3u;
-    i1 >>= (i2 & 31);
-    j1 = (u64)(i1);
-    j0 += j1;
-    i0 = (u32)(j0);
-    i32_load8_u(i0, i0, 0);
-    l12 = i0;
-    j0 = p1;
-    j1 = 16ull;
-    j0 += j1;
-    i0 = (u32)(j0);
-    i1 = l9;
-    i2 = 2u;
-    i1 += i2;
-    l10 = i1;
-    i32_store_at(i1, a0, 8);
-    i0 = l12;
-    i1 = l15;
-    i2 = 4294967295u;
-    i1 ^= i2;
-    i2 = 7u;
-    i1 &= i2;
-    i0 >>= (i1 & 31);
     l11 = i0;
-    i0 = l6;
     i1 = 2u;
-    i0 = i0 < i1;
-    l14 = i0;
-    if (i0) {goto B25;}
-    i0 = 1u;
-    l12 = i0;
-    i0 = l11;
-    i1 = 1u;
-    i0 &= i1;
-    i0 = !(i0);
-    if (i0) {goto B25;}
-    i0 = l10;
-    i1 = l8;
-    i0 = i0 == i1;
-    if (i0) {goto B3;}
-    j0 = l3;
-    i1 = l10;
-    i2 = 3u;
-    i1 >>= (i2 & 31);
-    j1 = (u64)(i1);
-    j0 += j1;
-    i0 = (u32)(j0);
-    i32_load8_u(i0, i0, 0);
-    l12 = i0;
-    j0 = p1;
-    j1 = 16ull;
-    j0 += j1;
-    i0 = (u32)(j0);
-    i1 = l9;
-    i2 = 3u;
-    i1 += i2;
-    l15 = i1;
-    i32_store_at(i1, a0, 8);
-    i0 = l12;
-    i1 = l10;
-    i2 = 4294967295u;
-    i1 ^= i2;
-    i2 = 7u;
-    i1 &= i2;
-    i0 >>= (i1 & 31);
-    l11 = i0;
-    i0 = 0u;
-    l13 = i0;
-    i0 = l6;
-    i1 = 33u;
-    i0 = i0 > i1;
-    if (i0) {goto B26;}
-    i0 = l11;
-    i1 = 1u;
-    i0 &= i1;
-    if (i0) {goto B23;}
-    B26:;
-    i0 = l6;
-    i1 = 4294967294u;
     i0 += i1;
-    l14 = i0;
-    i0 = 1u;
-    l12 = i0;
+    l10 = i0;
+    j0 = l5;
+    j1 = 31ull;
+    i0 = j0 > j1;
+    if (i0) {goto B14;}
+    B15:;
     i0 = l11;
-    i1 = 1u;
-    i0 &= i1;
-    i0 = !(i0);
-    if (i0) {goto B28;}
-    i0 = l15;
-    i1 = l8;
-    i0 = i0 == i1;
-    if (i0) {goto B8;}
-    i0 = l9;
-    i1 = l7;
-    i2 = 3u;
+    i1 = 192u;
+    i0 |= i1;
+    l11 = i0;
+    i0 = 8u;
+    l9 = i0;
+    goto B13;
+    B14:;
+    i0 = 61u;
+    i1 = l11;
+    i1 = I32_CLZ(i1);
+    i2 = 1u;
     i1 <<= (i2 & 31);
+    l12 = i1;
     i0 -= i1;
-    l7 = i0;
-    i0 = 4u;
+    l9 = i0;
+    i0 = 7u;
+    i1 = 58u;
+    i2 = l12;
+    i1 -= i2;
+    i0 <<= (i1 & 31);
+    i1 = l11;
+    i0 += i1;
     l11 = i0;
-    i0 = 3u;
-    l15 = i0;
-    L29:
-      j0 = l3;
-      i1 = l9;
-      i2 = l15;
-      i1 += i2;
-      l10 = i1;
-      i2 = 3u;
-      i1 >>= (i2 & 31);
-      j1 = (u64)(i1);
-      j0 += j1;
-      i0 = (u32)(j0);
-      i32_load8_u(i0, i0, 0);
-      l12 = i0;
-      j0 = p1;
-      j1 = 16ull;
-      j0 += j1;
-      i0 = (u32)(j0);
-      i1 = l10;
-      i2 = 1u;
-      i1 += i2;
-      i32_store_at(i1, a0, 8);
-      i0 = l12;
-      i1 = l10;
-      i2 = 4294967295u;
-      i1 ^= i2;
-      i2 = 7u;
-      i1 &= i2;
-      i0 >>= (i1 & 31);
-      i1 = 1u;
-      i0 &= i1;
-      l12 = i0;
-      if (i0) {goto B30;}
-      i0 = l14;
-      i1 = l15;
-      i2 = 3u;
-      i1 += i2;
-      i0 >>= (i1 & 31);
-      i0 = !(i0);
-      if (i0) {goto B23;}
-      B30:;
-      i0 = l12;
-      if (i0) {goto B31;}
-      i0 = 1u;
-      l12 = i0;
-      i0 = l11;
-      i1 = 1u;
-      i0 += i1;
-      l11 = i0;
-      i0 = l7;
-      i1 = l15;
-      i2 = 1u;
-      i1 += i2;
-      l15 = i1;
-      i0 += i1;
-      i0 = !(i0);
-      if (i0) {goto B3;}
-      goto L29;
-      B31:;
-    i0 = 1u;
-    l7 = i0;
-    i0 = l15;
-    i1 = 4294967294u;
-    i0 = i0 == i1;
-    if (i0) {goto B27;}
+    B13:;
+    i0 = l10;
+    i1 = l7;
+    i0 = i0 > i1;
+    if (i0) {goto B9;}
     i0 = l9;
-    i1 = l15;
-    i0 += i1;
-    i1 = 1u;
-    i0 += i1;
-    l10 = i0;
-    i0 = 1u;
-    l12 = i0;
-    i0 = 1u;
-    l7 = i0;
-    L32:
-      i0 = l8;
-      i1 = l10;
-      i0 = i0 == i1;
-      if (i0) {goto B3;}
-      j0 = l3;
-      i1 = l10;
-      i2 = 3u;
-      i1 >>= (i2 & 31);
-      j1 = (u64)(i1);
-      j0 += j1;
-      i0 = (u32)(j0);
-      i32_load8_u(i0, i0, 0);
-      l9 = i0;
-      j0 = p1;
-      j1 = 16ull;
-      j0 += j1;
-      i0 = (u32)(j0);
-      i1 = l10;
-      i2 = 1u;
-      i1 += i2;
-      l15 = i1;
-      i32_store_at(i1, a0, 8);
-      i0 = l14;
-      i1 = l7;
-      i2 = 1u;
-      i1 <<= (i2 & 31);
-      i2 = l9;
-      i3 = l10;
-      i4 = 4294967295u;
-      i3 ^= i4;
-      i4 = 7u;
-      i3 &= i4;
-      i2 >>= (i3 & 31);
-      i3 = 1u;
-      i2 &= i3;
-      i1 |= i2;
-      l7 = i1;
-      i2 = l11;
-      i1 <<= (i2 & 31);
-      i0 = i0 < i1;
-      if (i0) {goto B23;}
-      i0 = l15;
-      l10 = i0;
-      i0 = l11;
-      i1 = 4294967295u;
-      i0 += i1;
-      l11 = i0;
-      i1 = 4294967295u;
-      i0 = i0 != i1;
-      if (i0) {goto L32;}
-      goto B27;
-    goto trap;
-    B28:;
-    i0 = l15;
     i1 = l8;
-    i0 = i0 == i1;
-    if (i0) {goto B3;}
-    j0 = l3;
-    i1 = l15;
-    i2 = 3u;
-    i1 >>= (i2 & 31);
+    i0 = i0 > i1;
+    if (i0) {goto B9;}
+    j0 = l4;
+    i1 = 64u;
+    i2 = l9;
+    i1 -= i2;
     j1 = (u64)(i1);
-    j0 += j1;
-    i0 = (u32)(j0);
-    i32_load8_u(i0, i0, 0);
-    l12 = i0;
-    j0 = p1;
-    j1 = 16ull;
-    j0 += j1;
-    i0 = (u32)(j0);
-    i1 = l9;
-    i2 = 4u;
-    i1 += i2;
-    l10 = i1;
-    i32_store_at(i1, a0, 8);
-    i0 = l14;
-    i1 = l12;
-    i2 = l15;
-    i3 = 4294967295u;
-    i2 ^= i3;
-    i3 = 7u;
-    i2 &= i3;
-    i1 >>= (i2 & 31);
-    i2 = 4u;
-    i1 <<= (i2 & 31);
-    i2 = 16u;
-    i1 &= i2;
-    l12 = i1;
-    i0 = i0 >= i1;
-    if (i0) {goto B33;}
-    i0 = 1u;
-    l12 = i0;
-    i0 = l15;
-    l10 = i0;
-    goto B2;
-    B33:;
-    i0 = l10;
-    i1 = l8;
-    i0 = i0 == i1;
-    if (i0) {goto B8;}
-    j0 = l3;
-    i1 = l10;
-    i2 = 3u;
-    i1 >>= (i2 & 31);
-    j1 = (u64)(i1);
-    j0 += j1;
-    i0 = (u32)(j0);
-    i32_load8_u(i0, i0, 0);
-    l11 = i0;
-    j0 = p1;
-    j1 = 16ull;
-    j0 += j1;
-    i0 = (u32)(j0);
-    i1 = l9;
-    i2 = 5u;
-    i1 += i2;
-    l15 = i1;
-    i32_store_at(i1, a0, 8);
-    i0 = l14;
+    j0 >>= (j1 & 63);
     i1 = l11;
-    i2 = l10;
-    i3 = 4294967295u;
-    i2 ^= i3;
-    i3 = 7u;
-    i2 &= i3;
-    i1 >>= (i2 & 31);
-    i2 = 3u;
-    i1 <<= (i2 & 31);
-    i2 = 8u;
-    i1 &= i2;
-    i2 = l12;
-    i1 |= i2;
-    l12 = i1;
-    i0 = i0 < i1;
-    if (i0) {goto B23;}
-    i0 = l15;
-    i1 = l8;
-    i0 = i0 == i1;
-    if (i0) {goto B8;}
-    j0 = l3;
-    i1 = l15;
-    i2 = 3u;
-    i1 >>= (i2 & 31);
     j1 = (u64)(i1);
-    j0 += j1;
-    i0 = (u32)(j0);
-    i32_load8_u(i0, i0, 0);
-    l10 = i0;
-    j0 = p1;
-    j1 = 16ull;
-    j0 += j1;
-    i0 = (u32)(j0);
-    i1 = l9;
-    i2 = 6u;
-    i1 += i2;
-    l11 = i1;
-    i32_store_at(i1, a0, 8);
-    i0 = l14;
-    i1 = l10;
-    i2 = l15;
-    i3 = 4294967295u;
-    i2 ^= i3;
-    i3 = 7u;
-    i2 &= i3;
-    i1 >>= (i2 & 31);
-    i2 = 2u;
-    i1 <<= (i2 & 31);
-    i2 = 4u;
-    i1 &= i2;
-    i2 = l12;
-    i1 |= i2;
-    l7 = i1;
-    i0 = i0 >= i1;
-    if (i0) {goto B34;}
-    i0 = 1u;
-    l12 = i0;
-    i0 = l15;
-    l10 = i0;
-    goto B2;
-    B34:;
-    i0 = l11;
-    i1 = l8;
-    i0 = i0 == i1;
-    if (i0) {goto B8;}
-    j0 = l3;
-    i1 = l11;
-    i2 = 3u;
-    i1 >>= (i2 & 31);
-    j1 = (u64)(i1);
-    j0 += j1;
-    i0 = (u32)(j0);
-    i32_load8_u(i0, i0, 0);
-    l15 = i0;
-    j0 = p1;
-    j1 = 16ull;
-    j0 += j1;
-    i0 = (u32)(j0);
-    i1 = l9;
-    i2 = 7u;
-    i1 += i2;
-    l10 = i1;
-    i32_store_at(i1, a0, 8);
-    i0 = 1u;
-    l12 = i0;
-    i0 = l14;
-    i1 = l15;
-    i2 = l11;
-    i3 = 4294967295u;
-    i2 ^= i3;
-    i3 = 7u;
-    i2 &= i3;
-    i1 >>= (i2 & 31);
-    i2 = 1u;
-    i1 <<= (i2 & 31);
-    i2 = 2u;
-    i1 &= i2;
-    i2 = l7;
-    i1 |= i2;
-    l15 = i1;
-    i0 = i0 >= i1;
-    if (i0) {goto B35;}
-    i0 = l11;
-    l10 = i0;
-    goto B2;
-    B35:;
-    i0 = l10;
-    i1 = l8;
-    i0 = i0 == i1;
-    if (i0) {goto B8;}
-    j0 = l3;
-    i1 = l10;
-    i2 = 3u;
-    i1 >>= (i2 & 31);
-    j1 = (u64)(i1);
-    j0 += j1;
-    i0 = (u32)(j0);
-    i32_load8_u(i0, i0, 0);
-    l8 = i0;
-    j0 = p1;
-    j1 = 16ull;
-    j0 += j1;
-    i0 = (u32)(j0);
-    i1 = l9;
-    i2 = 8u;
-    i1 += i2;
-    i32_store_at(i1, a0, 8);
-    i0 = 1u;
-    l12 = i0;
-    i0 = l14;
-    i1 = l8;
-    i2 = l10;
-    i3 = 4294967295u;
-    i2 ^= i3;
-    i3 = 7u;
-    i2 &= i3;
-    i1 >>= (i2 & 31);
-    i2 = 1u;
-    i1 &= i2;
-    i2 = l15;
-    i1 |= i2;
-    l7 = i1;
-    i0 = i0 < i1;
-    if (i0) {goto B2;}
-    B27:;
-    i0 = l7;
-    i1 = 2u;
-    i0 += i1;
-    l12 = i0;
-    goto B9;
-    B25:;
-    i0 = 0u;
-    l13 = i0;
-    i0 = l15;
-    i1 = 0u;
-    i2 = l14;
-    i3 = l11;
-    i2 &= i3;
-    l12 = i2;
-    i0 = i2 ? i0 : i1;
-    l10 = i0;
-    goto B2;
-    B24:;
-    i0 = l6;
+    i0 = j0 != j1;
     if (i0) {goto B9;}
     i0 = 0u;
-    l13 = i0;
-    i0 = l9;
+    l11 = i0;
+    B10:;
+    j0 = p1;
+    j1 = 16ull;
+    j0 += j1;
+    l5 = j0;
+    i0 = (u32)(j0);
+    j1 = l5;
+    i1 = (u32)(j1);
+    reach(a2, i1, 0, 0);
+    i32_load_at(i1, a2, 0);
+    i2 = l9;
+    i1 += i2;
+    i32_store_at(i1, a2, 0);
+    i0 = l8;
+    i1 = l9;
+    i0 -= i1;
+    l8 = i0;
+    j0 = l4;
+    i1 = l9;
+    j1 = (u64)(i1);
+    j0 <<= (j1 & 63);
+    l4 = j0;
+    goto B8;
+    B9:;
+    j0 = l3;
+    j1 = p1;
+    i2 = l7;
+    call(code_f25(m, last, j0, j1, i2));
+    j0 = l3;
+    i0 = (u32)(j0);
+    i32_load_at(i0, frame, 8);
+    l10 = i0;
+    j0 = l3;
+    i0 = (u32)(j0);
+    i32_load8_u_at(i0, frame, 4);
+    l11 = i0;
+    j0 = l3;
+    i0 = (u32)(j0);
+    i32_load8_u_at(i0, frame, 0);
+    if (i0) {goto B7;}
+    j0 = 0ull;
+    l4 = j0;
+    i0 = 0u;
+    l8 = i0;
+    B8:;
+    i0 = l11;
+    i0 = !(i0);
+    if (i0) {goto B17;}
+    i0 = 0u;
+    l8 = i0;
+    i0 = 0u;
+    l11 = i0;
+    i0 = 0u;
     l10 = i0;
     goto B2;
-    B23:;
-    i0 = 1u;
-    l12 = i0;
-    goto B2;
-    B9:;
+    B17:;
     j0 = p2;
     i0 = (u32)(j0);
     i64_load(j0, i0, 0);
-    i1 = l6;
-    i2 = l12;
+    i1 = l7;
+    i2 = l10;
     i1 -= i2;
-    l6 = i1;
+    l7 = i1;
     i2 = 3u;
     i1 >>= (i2 & 31);
     i2 = 536870904u;
     i1 &= i2;
     j1 = (u64)(i1);
     j0 += j1;
-    l3 = j0;
+    l5 = j0;
     i0 = (u32)(j0);
-    j1 = 1ull;
-    i2 = l6;
-    i3 = 4294967295u;
-    i2 ^= i3;
-    j2 = (u64)(i2);
-    j1 <<= (j2 & 63);
-    j2 = l3;
-    i2 = (u32)(j2);
-    reach(a1, i2, 0, 0);
-    i64_load_at(j2, a1, 0);
+    j1 = l5;
+    i1 = (u32)(j1);
+    reach(a3, i1, 0, 0);
+    i64_load_at(j1, a3, 0);
+    j2 = 1ull;
+    i3 = l7;
+    i4 = 4294967295u;
+    i3 ^= i4;
+    j3 = (u64)(i3);
+    j2 <<= (j3 & 63);
     j1 |= j2;
-    i64_store_at(j1, a1, 0);
-    goto L4;
-    B8:;
+    i64_store_at(j1, a3, 0);
+    goto L3;
+    B7:;
   i0 = 1u;
-  l12 = i0;
-  B3:;
-  i0 = 1u;
-  l13 = i0;
-  i0 = l8;
-  l10 = i0;
+  l8 = i0;
   B2:;
   j0 = p0;
   i0 = (u32)(j0);
-  i1 = l12;
-  reach(a2, i0, 0, 4);
-  i32_store8_at(i1, a2, 0);
+  i1 = l8;
+  reach(a4, i0, 0, 4);
+  i32_store8_at(i1, a4, 0);
   j0 = p0;
   j1 = 8ull;
   j0 += j1;
   i0 = (u32)(j0);
   i1 = l10;
-  i32_store_at(i1, a2, 8);
+  i32_store_at(i1, a4, 8);
   j0 = p0;
   j1 = 4ull;
   j0 += j1;
   i0 = (u32)(j0);
-  i1 = l13;
-  i32_store_at(i1, a2, 4);
+  i1 = l11;
+  i32_store_at(i1, a4, 4);
+  j0 = l3;
+  j1 = 16ull;
+  j0 += j1;
+  set_stack(j0);
   return;
   trap:
   set_broken(m);
@@ -9957,7 +9399,7 @@ static u64 code_f19(uint8_t *const m, const u32 last, u64 p0, u64 p1) {
   j1 = 8ull;
   j0 += j1;
   j1 = p1;
-  call(code_f25(m, last, j0, j1));
+  call(code_f26(m, last, j0, j1));
   j0 = l2;
   i0 = (u32)(j0);
   i64_load_at(j0, frame, 8);
@@ -9968,7 +9410,7 @@ static u64 code_f19(uint8_t *const m, const u32 last, u64 p0, u64 p1) {
   j1 = 8ull;
   j0 += j1;
   j1 = p1;
-  call(code_f26(m, last, j0, j1));
+  call(code_f27(m, last, j0, j1));
   B0:;
   j0 = l2;
   i0 = (u32)(j0);
@@ -10059,11 +9501,11 @@ static u64 code_f19(uint8_t *const m, const u32 last, u64 p0, u64 p1) {
 }
 
 static void code_f20(uint8_t *const m, const u32 last, u64 p0, u64 p1, u64 p2, u32 p3, u64 p4, u32 p5, u64 p6, u64 p7, u64 p8) {
-  u32 l16 = 0, l17 = 0, l18 = 0, l19 = 0;
+  u32 l16 = 0, l17 = 0, l18 = 0, l19 = 0, l20 = 0, l21 = 0;
   u64 l9 = 0, l10 = 0, l11 = 0, l12 = 0, l13 = 0, l14 = 0, l15 = 0;
   u32 i0, i1, i2, i3, i4;
-  u64 j0, j1, j2, j3, j4, j5, j6;
-  uint8_t *frame, *a1, *a2, *a3, *a4, *a5, *a6, *a7, *a8, *a9, *a10;
+  u64 j0, j1, j2, j3, j5, j6;
+  uint8_t *frame, *a1, *a2, *a3, *a4, *a5, *a6, *a7, *a8, *a9, *a10, *a11;
   enter(l9, 48);
   frame = place(l9);
   j0 = l9;
@@ -10223,14 +9665,6 @@ static void code_f20(uint8_t *const m, const u32 last, u64 p0, u64 p1, u64 p2, u
   j1 ^= j2;
   i64_store(j1, i0, 0);
   B2:;
-  j0 = l9;
-  i0 = (u32)(j0);
-  i1 = 0u;
-  i32_store_at(i1, frame, 40);
-  j0 = l9;
-  i0 = (u32)(j0);
-  j1 = 0ull;
-  i64_store_at(j1, frame, 32);
   j0 = p8;
   j1 = 64ull;
   j0 += j1;
@@ -10247,7 +9681,7 @@ static void code_f20(uint8_t *const m, const u32 last, u64 p0, u64 p1, u64 p2, u
   i1 += i2;
   i2 = 6u;
   i1 >>= (i2 & 31);
-  p3 = i1;
+  l17 = i1;
   i2 = 3u;
   i1 <<= (i2 & 31);
   j1 = (u64)(i1);
@@ -10255,23 +9689,31 @@ static void code_f20(uint8_t *const m, const u32 last, u64 p0, u64 p1, u64 p2, u
   i0 = (u32)(j0);
   i64_load(j0, i0, 0);
   l14 = j0;
-  L6:
+  i0 = 0u;
+  l18 = i0;
+  j0 = 0ull;
+  l11 = j0;
+  L5:
     j0 = l14;
     j1 = 0ull;
-    i0 = j0 != j1;
-    if (i0) {goto B7;}
-    i0 = p3;
+    i0 = j0 == j1;
+    if (i0) {goto B11;}
+    j0 = l14;
+    p7 = j0;
+    goto B10;
+    B11:;
+    i0 = l17;
     i0 = !(i0);
-    if (i0) {goto B8;}
+    if (i0) {goto B12;}
     j0 = l10;
     i0 = (u32)(j0);
     i64_load_at(j0, a3, 0);
     l14 = j0;
-    i0 = p3;
+    i0 = l17;
     i1 = 6u;
     i0 <<= (i1 & 31);
     p3 = i0;
-    L9:
+    L13:
       j0 = l14;
       i1 = p3;
       i2 = 4294967295u;
@@ -10287,7 +9729,7 @@ static void code_f20(uint8_t *const m, const u32 last, u64 p0, u64 p1, u64 p2, u
       i64_load(j0, i0, 0);
       l15 = j0;
       i0 = !(j0);
-      if (i0) {goto B10;}
+      if (i0) {goto B14;}
       j0 = l14;
       i1 = p3;
       j2 = l15;
@@ -10296,56 +9738,65 @@ static void code_f20(uint8_t *const m, const u32 last, u64 p0, u64 p1, u64 p2, u
       i1 -= i2;
       i2 = 6u;
       i1 >>= (i2 & 31);
-      p3 = i1;
+      l17 = i1;
       i2 = 3u;
       i1 <<= (i2 & 31);
       j1 = (u64)(i1);
       j0 += j1;
       i0 = (u32)(j0);
       i64_load(j0, i0, 0);
-      l14 = j0;
-      goto B7;
-      B10:;
+      p7 = j0;
+      goto B10;
+      B14:;
       i0 = p3;
       i1 = 4294967232u;
       i0 &= i1;
       p3 = i0;
-      if (i0) {goto L9;}
-    B8:;
-    j0 = p1;
-    j1 = 8ull;
-    j0 += j1;
-    i0 = (u32)(j0);
-    reach(a4, i0, 0, 4);
-    i64_load_at(j0, a4, 0);
-    l14 = j0;
-    i0 = (u32)(j0);
-    i1 = 3u;
-    i0 <<= (i1 & 31);
-    l16 = i0;
+      if (i0) {goto L13;}
+    B12:;
+    j0 = l11;
+    j1 = 2ull;
+    j0 <<= (j1 & 63);
+    j1 = 2ull;
+    j0 |= j1;
+    l15 = j0;
+    i0 = l18;
+    i1 = 2u;
+    i0 += i1;
+    l19 = i0;
     j1 = p1;
-    j2 = 16ull;
+    j2 = 8ull;
     j1 += j2;
     i1 = (u32)(j1);
-    i32_load_at(i1, a4, 8);
-    p3 = i1;
-    i0 -= i1;
-    i1 = 2u;
-    i0 = i0 < i1;
-    if (i0) {goto B12;}
+    reach(a4, i1, 0, 4);
+    i64_load_at(j1, a4, 0);
+    l14 = j1;
+    i1 = (u32)(j1);
+    i2 = 3u;
+    i1 <<= (i2 & 31);
+    l20 = i1;
+    j2 = p1;
+    j3 = 16ull;
+    j2 += j3;
+    i2 = (u32)(j2);
+    i32_load_at(i2, a4, 8);
+    p3 = i2;
+    i1 -= i2;
+    i0 = i0 > i1;
+    if (i0) {goto B16;}
     i0 = p3;
     i1 = 0u;
-    i2 = l16;
+    i2 = l20;
     i3 = 4294967232u;
     i2 += i3;
-    l17 = i2;
-    i3 = l17;
-    i4 = l16;
+    l21 = i2;
+    i3 = l21;
+    i4 = l20;
     i3 = i3 > i4;
     i1 = i3 ? i1 : i2;
-    l17 = i1;
+    l21 = i1;
     i0 = i0 >= i1;
-    if (i0) {goto B14;}
+    if (i0) {goto B18;}
     j0 = p1;
     i0 = (u32)(j0);
     i64_load(j0, i0, 0);
@@ -10363,130 +9814,116 @@ static void code_f20(uint8_t *const m, const u32 last, u64 p0, u64 p1, u64 p2, u
     i2 &= i3;
     call(j0 = code_f17(m, last, j0, j1, i2));
     l14 = j0;
-    goto B13;
-    B14:;
-    i0 = p3;
-    i1 = l17;
-    i0 -= i1;
-    l17 = i0;
-    i1 = 64u;
-    i0 = i0 == i1;
-    if (i0) {goto B12;}
-    j0 = p1;
-    j1 = 24ull;
-    j0 += j1;
-    i0 = (u32)(j0);
-    i64_load(j0, i0, 0);
-    i1 = l17;
-    j1 = (u64)(i1);
-    j0 <<= (j1 & 63);
+    goto B17;
+    B18:;
+    j0 = 0ull;
+    j1 = p1;
+    j2 = 24ull;
+    j1 += j2;
+    i1 = (u32)(j1);
+    i64_load(j1, i1, 0);
+    i2 = p3;
+    i3 = l21;
+    i2 -= i3;
+    l21 = i2;
+    j2 = (u64)(i2);
+    j1 <<= (j2 & 63);
+    i2 = l21;
+    i3 = 64u;
+    i2 = i2 == i3;
+    j0 = i2 ? j0 : j1;
     l14 = j0;
-    B13:;
+    B17:;
     j0 = l14;
-    j1 = 13835058055282163711ull;
-    i0 = (u64)((s64)j0 > (s64)j1);
-    if (i0) {goto B12;}
-    j0 = p1;
-    j1 = 16ull;
-    j0 += j1;
-    i0 = (u32)(j0);
-    i1 = p3;
-    i2 = 2u;
-    i1 += i2;
-    i32_store_at(i1, a4, 8);
-    goto B11;
-    B12:;
-    i0 = l16;
-    i1 = p3;
-    i0 = i0 != i1;
-    if (i0) {goto B15;}
-    i0 = 1u;
-    l17 = i0;
-    i0 = p3;
-    l16 = i0;
-    goto B5;
-    B15:;
-    j0 = p1;
-    i0 = (u32)(j0);
-    i64_load(j0, i0, 0);
-    l14 = j0;
-    i1 = p3;
-    i2 = 3u;
-    i1 >>= (i2 & 31);
+    i1 = 62u;
+    i2 = l18;
+    i1 -= i2;
     j1 = (u64)(i1);
-    j0 += j1;
-    i0 = (u32)(j0);
-    i32_load8_u(i0, i0, 0);
-    l18 = i0;
-    i0 = 1u;
-    l17 = i0;
+    j0 >>= (j1 & 63);
+    j1 = l15;
+    i0 = j0 != j1;
+    if (i0) {goto B16;}
     j0 = p1;
     j1 = 16ull;
     j0 += j1;
     i0 = (u32)(j0);
     i1 = p3;
-    i2 = 1u;
+    i2 = l19;
     i1 += i2;
-    l19 = i1;
     i32_store_at(i1, a4, 8);
-    i0 = l18;
-    i1 = p3;
-    i2 = 4294967295u;
-    i1 ^= i2;
-    i2 = 7u;
-    i1 &= i2;
-    i0 >>= (i1 & 31);
-    i1 = 1u;
-    i0 &= i1;
-    if (i0) {goto B16;}
-    i0 = 0u;
-    l17 = i0;
-    i0 = p3;
-    l16 = i0;
-    goto B5;
+    goto B15;
     B16:;
     i0 = l19;
-    i1 = l16;
-    i0 = i0 == i1;
-    if (i0) {goto B5;}
-    j0 = l14;
-    i1 = l19;
-    i2 = 3u;
-    i1 >>= (i2 & 31);
-    j1 = (u64)(i1);
+    j0 = (u64)(i0);
+    j1 = 18446744073709551615ull;
     j0 += j1;
-    i0 = (u32)(j0);
-    i32_load8_u(i0, i0, 0);
-    l16 = i0;
-    j0 = p1;
-    j1 = 16ull;
-    j0 += j1;
-    i0 = (u32)(j0);
-    i1 = p3;
-    i2 = 2u;
-    i1 += i2;
-    i32_store_at(i1, a4, 8);
-    i0 = l16;
-    i1 = l19;
-    i2 = 4294967295u;
-    i1 ^= i2;
-    i2 = 7u;
-    i1 &= i2;
-    i0 >>= (i1 & 31);
-    i1 = 1u;
-    i0 &= i1;
-    p3 = i0;
-    i0 = !(i0);
-    if (i0) {goto B11;}
-    i0 = 0u;
-    l17 = i0;
-    i0 = l19;
-    i1 = 0u;
-    i2 = p3;
-    i0 = i2 ? i0 : i1;
-    l16 = i0;
-    goto B5;
-    B11:;
+    l14 = j0;
+    L19:
+      j0 = l14;
+      j1 = 18446744073709551615ull;
+      i0 = j0 == j1;
+      if (i0) {goto B15;}
+      i0 = l20;
+      i1 = p3;
+      i0 = i0 != i1;
+      if (i0) {goto B20;}
+      i0 = 1u;
+      p3 = i0;
+      goto B8;
+      B20:;
+      j0 = p1;
+      i0 = (u32)(j0);
+      i64_load(j0, i0, 0);
+      i1 = p3;
+      i2 = 3u;
+      i1 >>= (i2 & 31);
+      j1 = (u64)(i1);
+      j0 += j1;
+      i0 = (u32)(j0);
+      i32_load8_u(i0, i0, 0);
+      l19 = i0;
+      j0 = p1;
+      j1 = 16ull;
+      j0 += j1;
+      i0 = (u32)(j0);
+      i1 = p3;
+      i2 = 1u;
+      i1 += i2;
+      l18 = i1;
+      i32_store_at(i1, a4, 8);
+      i0 = p3;
+      i1 = 4294967295u;
+      i0 ^= i1;
+      l21 = i0;
+      j0 = l15;
+      j1 = l14;
+      j0 >>= (j1 & 63);
+      l10 = j0;
+      j0 = l14;
+      j1 = 18446744073709551615ull;
+      j0 += j1;
+      l14 = j0;
+      i0 = l18;
+      p3 = i0;
+      j0 = l10;
+      j1 = 1ull;
+      j0 &= j1;
+      i0 = !(j0);
+      i1 = l19;
+      i2 = l21;
+      i3 = 7u;
+      i2 &= i3;
+      i1 >>= (i2 & 31);
+      i0 ^= i1;
+      i1 = 1u;
+      i0 &= i1;
+      if (i0) {goto L19;}
+    i0 = l18;
+    i1 = 4294967295u;
+    i0 += i1;
+    l20 = i0;
+    goto B9;
+    B15:;
     j0 = l9;
     j1 = p1;
     j2 = p2;
@@ -10494,11 +9931,11 @@ static void code_f20(uint8_t *const m, const u32 last, u64 p0, u64 p1, u64 p2, u
     i4 = p5;
     j5 = p6;
     j6 = p8;
-    call(code_f28(m, last, j0, j1, j2, j3, i4, j5, j6));
+    call(code_f29(m, last, j0, j1, j2, j3, i4, j5, j6));
     j0 = l9;
     i0 = (u32)(j0);
     i32_load8_u_at(i0, frame, 0);
-    if (i0) {goto B17;}
+    if (i0) {goto B21;}
     j0 = p0;
     i0 = (u32)(j0);
     i1 = 0u;
@@ -10521,7 +9958,7 @@ static void code_f20(uint8_t *const m, const u32 last, u64 p0, u64 p1, u64 p2, u
     i1 &= i2;
     i32_store8_at(i1, a5, 2);
     goto B0;
-    B17:;
+    B21:;
     j0 = p0;
     i0 = (u32)(j0);
     i1 = 1u;
@@ -10550,71 +9987,289 @@ static void code_f20(uint8_t *const m, const u32 last, u64 p0, u64 p1, u64 p2, u
     i1 = 0u;
     i32_store8_at(i1, a6, 2);
     goto B0;
-    B7:;
-    j0 = l9;
-    j1 = 32ull;
-    j0 += j1;
+    B10:;
+    i0 = l18;
+    i1 = 34u;
+    i0 = i0 < i1;
+    if (i0) {goto B6;}
+    i0 = l18;
     j1 = p1;
-    i2 = l16;
-    i3 = p3;
-    i4 = 6u;
-    i3 <<= (i4 & 31);
-    i4 = 63u;
-    i3 |= i4;
-    j4 = l14;
-    j4 = I64_CTZ(j4);
-    i4 = (u32)(j4);
-    i3 -= i4;
-    l17 = i3;
-    i2 -= i3;
-    call(code_f29(m, last, j0, j1, i2));
-    j0 = l9;
+    j2 = 8ull;
+    j1 += j2;
+    i1 = (u32)(j1);
+    reach(a7, i1, 0, 4);
+    i64_load_at(j1, a7, 0);
+    l14 = j1;
+    i1 = (u32)(j1);
+    i2 = 3u;
+    i1 <<= (i2 & 31);
+    l20 = i1;
+    j2 = p1;
+    j3 = 16ull;
+    j2 += j3;
+    i2 = (u32)(j2);
+    i32_load_at(i2, a7, 8);
+    p3 = i2;
+    i1 -= i2;
+    i0 = i0 > i1;
+    if (i0) {goto B22;}
+    i0 = p3;
+    i1 = 0u;
+    i2 = l20;
+    i3 = 4294967232u;
+    i2 += i3;
+    l19 = i2;
+    i3 = l19;
+    i4 = l20;
+    i3 = i3 > i4;
+    i1 = i3 ? i1 : i2;
+    l19 = i1;
+    i0 = i0 >= i1;
+    if (i0) {goto B24;}
+    j0 = p1;
     i0 = (u32)(j0);
-    i32_load8_u_at(i0, frame, 32);
-    if (i0) {goto B18;}
-    j0 = l14;
-    j1 = 18446744073709551615ull;
+    i64_load(j0, i0, 0);
+    i1 = p3;
+    i2 = 3u;
+    i1 >>= (i2 & 31);
+    j1 = (u64)(i1);
+    l15 = j1;
     j0 += j1;
     j1 = l14;
+    j2 = l15;
+    j1 -= j2;
+    i2 = p3;
+    i3 = 7u;
+    i2 &= i3;
+    call(j0 = code_f17(m, last, j0, j1, i2));
+    l14 = j0;
+    goto B23;
+    B24:;
+    j0 = 0ull;
+    j1 = p1;
+    j2 = 24ull;
+    j1 += j2;
+    i1 = (u32)(j1);
+    i64_load(j1, i1, 0);
+    i2 = p3;
+    i3 = l19;
+    i2 -= i3;
+    l19 = i2;
+    j2 = (u64)(i2);
+    j1 <<= (j2 & 63);
+    i2 = l19;
+    i3 = 64u;
+    i2 = i2 == i3;
+    j0 = i2 ? j0 : j1;
+    l14 = j0;
+    B23:;
+    j0 = l14;
+    i1 = 64u;
+    i2 = l18;
+    i1 -= i2;
+    j1 = (u64)(i1);
+    j0 >>= (j1 & 63);
+    j1 = l11;
+    i0 = j0 != j1;
+    if (i0) {goto B22;}
+    j0 = p1;
+    j1 = 16ull;
+    j0 += j1;
+    i0 = (u32)(j0);
+    i1 = p3;
+    i2 = l18;
+    i1 += i2;
+    i32_store_at(i1, a7, 8);
+    goto B7;
+    B22:;
+    i0 = l18;
+    j0 = (u64)(i0);
+    j1 = 18446744073709551615ull;
+    j0 += j1;
+    l14 = j0;
+    L25:
+      j0 = l14;
+      j1 = 18446744073709551615ull;
+      i0 = j0 == j1;
+      if (i0) {goto B7;}
+      i0 = l20;
+      i1 = p3;
+      i0 = i0 != i1;
+      if (i0) {goto B26;}
+      i0 = 1u;
+      p3 = i0;
+      goto B8;
+      B26:;
+      j0 = p1;
+      i0 = (u32)(j0);
+      i64_load(j0, i0, 0);
+      i1 = p3;
+      i2 = 3u;
+      i1 >>= (i2 & 31);
+      j1 = (u64)(i1);
+      j0 += j1;
+      i0 = (u32)(j0);
+      i32_load8_u(i0, i0, 0);
+      l19 = i0;
+      j0 = p1;
+      j1 = 16ull;
+      j0 += j1;
+      i0 = (u32)(j0);
+      i1 = p3;
+      i2 = 1u;
+      i1 += i2;
+      l18 = i1;
+      i32_store_at(i1, a7, 8);
+      i0 = p3;
+      i1 = 4294967295u;
+      i0 ^= i1;
+      l21 = i0;
+      j0 = l11;
+      j1 = l14;
+      j0 >>= (j1 & 63);
+      l15 = j0;
+      j0 = l14;
+      j1 = 18446744073709551615ull;
+      j0 += j1;
+      l14 = j0;
+      i0 = l18;
+      p3 = i0;
+      j0 = l15;
+      j1 = 1ull;
+      j0 &= j1;
+      i0 = !(j0);
+      i1 = l19;
+      i2 = l21;
+      i3 = 7u;
+      i2 &= i3;
+      i1 >>= (i2 & 31);
+      i0 ^= i1;
+      i1 = 1u;
+      i0 &= i1;
+      if (i0) {goto L25;}
+    i0 = l18;
+    i1 = 4294967295u;
+    i0 += i1;
+    l20 = i0;
+    B9:;
+    i0 = 0u;
+    p3 = i0;
+    B8:;
+    j0 = p0;
+    i0 = (u32)(j0);
+    i1 = 1u;
+    reach(a8, i0, 0, 4);
+    i32_store16_at(i1, a8, 0);
+    j0 = p0;
+    j1 = 8ull;
+    j0 += j1;
+    i0 = (u32)(j0);
+    i1 = l20;
+    i32_store_at(i1, a8, 8);
+    j0 = p0;
+    j1 = 4ull;
+    j0 += j1;
+    i0 = (u32)(j0);
+    i1 = p3;
+    i32_store_at(i1, a8, 4);
+    j0 = p0;
+    j1 = 2ull;
+    j0 += j1;
+    i0 = (u32)(j0);
+    i1 = 0u;
+    i32_store8_at(i1, a8, 2);
+    goto B0;
+    B7:;
+    j0 = 0ull;
+    l11 = j0;
+    i0 = 0u;
+    l18 = i0;
+    B6:;
+    j0 = p7;
+    j1 = 18446744073709551615ull;
+    j0 += j1;
+    j1 = p7;
     j0 &= j1;
     l14 = j0;
-    i0 = l17;
+    i0 = l16;
+    i1 = l17;
+    i2 = 6u;
+    i1 <<= (i2 & 31);
+    i2 = 63u;
+    i1 |= i2;
+    j2 = p7;
+    j2 = I64_CTZ(j2);
+    i2 = (u32)(j2);
+    i1 -= i2;
+    p3 = i1;
+    i0 -= i1;
+    l20 = i0;
+    switch (i0) {
+      case 0: goto B28;
+      case 1: goto B30;
+      default: goto B29;
+    }
+    B30:;
+    i0 = l18;
+    i1 = 1u;
+    i0 += i1;
+    l18 = i0;
+    j0 = l11;
+    j1 = 1ull;
+    j0 <<= (j1 & 63);
+    l11 = j0;
+    i0 = p3;
     l16 = i0;
-    goto L6;
-    B18:;
-  j0 = l9;
-  i0 = (u32)(j0);
-  i32_load8_u_at(i0, frame, 36);
-  l17 = i0;
-  j0 = l9;
-  i0 = (u32)(j0);
-  i32_load_at(i0, frame, 40);
-  l16 = i0;
-  B5:;
-  j0 = p0;
-  i0 = (u32)(j0);
-  i1 = 1u;
-  reach(a7, i0, 0, 4);
-  i32_store16_at(i1, a7, 0);
-  j0 = p0;
-  j1 = 8ull;
-  j0 += j1;
-  i0 = (u32)(j0);
-  i1 = l16;
-  i32_store_at(i1, a7, 8);
-  j0 = p0;
-  j1 = 4ull;
-  j0 += j1;
-  i0 = (u32)(j0);
-  i1 = l17;
-  i32_store_at(i1, a7, 4);
-  j0 = p0;
-  j1 = 2ull;
-  j0 += j1;
-  i0 = (u32)(j0);
-  i1 = 0u;
-  i32_store8_at(i1, a7, 2);
-  goto B0;
+    goto L5;
+    B29:;
+    i0 = l20;
+    i1 = 33u;
+    i0 = i0 > i1;
+    if (i0) {goto B28;}
+    i0 = l20;
+    i1 = 190u;
+    i0 += i1;
+    l19 = i0;
+    i0 = 8u;
+    l20 = i0;
+    goto B27;
+    B28:;
+    i0 = 7u;
+    i1 = 58u;
+    i2 = l20;
+    i3 = 4294967294u;
+    i2 += i3;
+    l20 = i2;
+    i2 = I32_CLZ(i2);
+    i3 = 1u;
+    i2 <<= (i3 & 31);
+    l21 = i2;
+    i1 -= i2;
+    i0 <<= (i1 & 31);
+    i1 = l20;
+    i0 += i1;
+    l19 = i0;
+    i0 = 61u;
+    i1 = l21;
+    i0 -= i1;
+    l20 = i0;
+    B27:;
+    i0 = l20;
+    i1 = l18;
+    i0 += i1;
+    l18 = i0;
+    j0 = l11;
+    i1 = l20;
+    j1 = (u64)(i1);
+    j0 <<= (j1 & 63);
+    i1 = l19;
+    j1 = (u64)(i1);
+    j0 += j1;
+    l11 = j0;
+    i0 = p3;
+    l16 = i0;
+    goto L5;
+  goto trap;
   B1:;
   j0 = l9;
   i0 = (u32)(j0);
@@ -10633,7 +10288,7 @@ static void code_f20(uint8_t *const m, const u32 last, u64 p0, u64 p1, u64 p2, u
   j0 = l9;
   i0 = (u32)(j0);
   i32_load8_u_at(i0, frame, 32);
-  if (i0) {goto B20;}
+  if (i0) {goto B32;}
   j0 = p8;
   j1 = 72ull;
   j0 += j1;
@@ -10641,7 +10296,7 @@ static void code_f20(uint8_t *const m, const u32 last, u64 p0, u64 p1, u64 p2, u
   i64_load32_u(j0, i0, 0);
   l14 = j0;
   i0 = !(j0);
-  if (i0) {goto B21;}
+  if (i0) {goto B33;}
   j0 = l14;
   j1 = 3ull;
   j0 <<= (j1 & 63);
@@ -10650,7 +10305,7 @@ static void code_f20(uint8_t *const m, const u32 last, u64 p0, u64 p1, u64 p2, u
   l14 = j0;
   j0 = 0ull;
   l15 = j0;
-  L22:
+  L34:
     j0 = p7;
     i0 = (u32)(j0);
     i64_load(j0, i0, 0);
@@ -10710,8 +10365,8 @@ static void code_f20(uint8_t *const m, const u32 last, u64 p0, u64 p1, u64 p2, u
     l14 = j0;
     j1 = 18446744073709551608ull;
     i0 = j0 != j1;
-    if (i0) {goto L22;}
-  B21:;
+    if (i0) {goto L34;}
+  B33:;
   j0 = l9;
   j1 = 16ull;
   j0 += j1;
@@ -10721,22 +10376,22 @@ static void code_f20(uint8_t *const m, const u32 last, u64 p0, u64 p1, u64 p2, u
   i4 = p5;
   j5 = p6;
   j6 = p8;
-  call(code_f28(m, last, j0, j1, j2, j3, i4, j5, j6));
+  call(code_f29(m, last, j0, j1, j2, j3, i4, j5, j6));
   j0 = l9;
   i0 = (u32)(j0);
   i32_load8_u_at(i0, frame, 16);
-  if (i0) {goto B19;}
+  if (i0) {goto B31;}
   j0 = p0;
   i0 = (u32)(j0);
   i1 = 256u;
-  reach(a8, i0, 0, 4);
-  i32_store16_at(i1, a8, 0);
+  reach(a9, i0, 0, 4);
+  i32_store16_at(i1, a9, 0);
   j0 = p0;
   j1 = 4ull;
   j0 += j1;
   i0 = (u32)(j0);
   j1 = 0ull;
-  i64_store_at(j1, a8, 4);
+  i64_store_at(j1, a9, 4);
   j0 = p0;
   j1 = 2ull;
   j0 += j1;
@@ -10746,9 +10401,9 @@ static void code_f20(uint8_t *const m, const u32 last, u64 p0, u64 p1, u64 p2, u
   i32_load8_u_at(i1, frame, 17);
   i2 = 1u;
   i1 &= i2;
-  i32_store8_at(i1, a8, 2);
+  i32_store8_at(i1, a9, 2);
   goto B0;
-  B20:;
+  B32:;
   j0 = l9;
   i0 = (u32)(j0);
   i32_load8_u_at(i0, frame, 36);
@@ -10760,46 +10415,13 @@ static void code_f20(uint8_t *const m, const u32 last, u64 p0, u64 p1, u64 p2, u
   j1 = l9;
   i1 = (u32)(j1);
   i32_load_at(i1, frame, 40);
-  reach(a9, i0, -8, 4);
-  i32_store_at(i1, a9, 8);
-  j0 = p0;
-  j1 = 4ull;
-  j0 += j1;
-  i0 = (u32)(j0);
-  i1 = p3;
-  i32_store_at(i1, a9, 4);
-  j0 = p0;
-  j1 = 2ull;
-  j0 += j1;
-  i0 = (u32)(j0);
-  i1 = 0u;
-  i32_store8_at(i1, a9, 2);
-  j0 = p0;
-  i0 = (u32)(j0);
-  i1 = 1u;
-  i32_store16_at(i1, a9, 0);
-  goto B0;
-  B19:;
-  j0 = p0;
-  i0 = (u32)(j0);
-  i1 = 1u;
-  reach(a10, i0, 0, 4);
-  i32_store16_at(i1, a10, 0);
-  j0 = p0;
-  j1 = 8ull;
-  j0 += j1;
-  i0 = (u32)(j0);
-  j1 = l9;
-  i1 = (u32)(j1);
-  i32_load_at(i1, frame, 24);
+  reach(a10, i0, -8, 4);
   i32_store_at(i1, a10, 8);
   j0 = p0;
   j1 = 4ull;
   j0 += j1;
   i0 = (u32)(j0);
-  j1 = l9;
-  i1 = (u32)(j1);
-  i32_load8_u_at(i1, frame, 20);
+  i1 = p3;
   i32_store_at(i1, a10, 4);
   j0 = p0;
   j1 = 2ull;
@@ -10807,6 +10429,39 @@ static void code_f20(uint8_t *const m, const u32 last, u64 p0, u64 p1, u64 p2, u
   i0 = (u32)(j0);
   i1 = 0u;
   i32_store8_at(i1, a10, 2);
+  j0 = p0;
+  i0 = (u32)(j0);
+  i1 = 1u;
+  i32_store16_at(i1, a10, 0);
+  goto B0;
+  B31:;
+  j0 = p0;
+  i0 = (u32)(j0);
+  i1 = 1u;
+  reach(a11, i0, 0, 4);
+  i32_store16_at(i1, a11, 0);
+  j0 = p0;
+  j1 = 8ull;
+  j0 += j1;
+  i0 = (u32)(j0);
+  j1 = l9;
+  i1 = (u32)(j1);
+  i32_load_at(i1, frame, 24);
+  i32_store_at(i1, a11, 8);
+  j0 = p0;
+  j1 = 4ull;
+  j0 += j1;
+  i0 = (u32)(j0);
+  j1 = l9;
+  i1 = (u32)(j1);
+  i32_load8_u_at(i1, frame, 20);
+  i32_store_at(i1, a11, 4);
+  j0 = p0;
+  j1 = 2ull;
+  j0 += j1;
+  i0 = (u32)(j0);
+  i1 = 0u;
+  i32_store8_at(i1, a11, 2);
   B0:;
   j0 = l9;
   j1 = 48ull;
@@ -10939,7 +10594,7 @@ static void code_f21(uint8_t *const m, const u32 last, u64 p0, u64 p1, u64 p2, u
   i2 = (u32)(j2);
   reach(a3, i2, 0, 0);
   i32_load_at(i2, a3, 0);
-  call(code_f29(m, last, j0, j1, i2));
+  call(code_f31(m, last, j0, j1, i2));
   j0 = l8;
   i0 = (u32)(j0);
   i32_load8_u_at(i0, frame, 16);
@@ -10968,7 +10623,7 @@ static void code_f21(uint8_t *const m, const u32 last, u64 p0, u64 p1, u64 p2, u
   j0 = p1;
   j1 = p7;
   i2 = l11;
-  call(code_f31(m, last, j0, j1, i2));
+  call(code_f32(m, last, j0, j1, i2));
   j0 = p6;
   i0 = (u32)(j0);
   i32_load_at(i0, a1, 0);
@@ -10982,7 +10637,7 @@ static void code_f21(uint8_t *const m, const u32 last, u64 p0, u64 p1, u64 p2, u
   j0 = p1;
   j1 = p7;
   i2 = l10;
-  call(code_f31(m, last, j0, j1, i2));
+  call(code_f32(m, last, j0, j1, i2));
   j0 = p0;
   j1 = 4ull;
   j0 += j1;
@@ -11535,7 +11190,7 @@ static void code_f23(uint8_t *const m, const u32 last, u64 p0, u64 p1, u64 p2, u
     j2 = p4;
     j3 = p5;
     j4 = l6;
-    call(j0 = code_f27(m, last, j0, j1, j2, j3, j4));
+    call(j0 = code_f28(m, last, j0, j1, j2, j3, j4));
     l11 = j0;
     j0 = p2;
     i0 = (u32)(j0);
@@ -11993,7 +11648,595 @@ static void code_f24(uint8_t *const m, const u32 last, u64 p0, u64 p1, u64 p2, u
   return;
 }
 
-static void code_f25(uint8_t *const m, const u32 last, u64 p0, u64 p1) {
+static void code_f25(uint8_t *const m, const u32 last, u64 p0, u64 p1, u32 p2) {
+  u32 l3 = 0, l4 = 0, l5 = 0, l6 = 0, l7 = 0, l8 = 0, l9 = 0, l10 = 0, l11 = 0, l12 = 0;
+  u64 l13 = 0, l14 = 0;
+  u32 i0, i1, i2, i3, i4, i5;
+  u64 j0, j1, j2;
+  uint8_t *a0, *a1, *a2;
+  i0 = 1u;
+  l3 = i0;
+  j0 = p1;
+  j1 = 16ull;
+  j0 += j1;
+  l13 = j0;
+  i0 = (u32)(j0);
+  reach(a0, i0, -8, 4);
+  i32_load_at(i0, a0, 8);
+  l4 = i0;
+  j1 = p1;
+  j2 = 8ull;
+  j1 += j2;
+  i1 = (u32)(j1);
+  i32_load_at(i1, a0, 0);
+  l5 = i1;
+  i2 = 3u;
+  i1 <<= (i2 & 31);
+  l6 = i1;
+  i0 = i0 == i1;
+  if (i0) {goto B3;}
+  j0 = p1;
+  i0 = (u32)(j0);
+  i64_load(j0, i0, 0);
+  l14 = j0;
+  i1 = l4;
+  i2 = 3u;
+  i1 >>= (i2 & 31);
+  j1 = (u64)(i1);
+  j0 += j1;
+  i0 = (u32)(j0);
+  i32_load8_u(i0, i0, 0);
+  l3 = i0;
+  i0 = 1u;
+  l7 = i0;
+  j0 = l13;
+  i0 = (u32)(j0);
+  i1 = l4;
+  i2 = 1u;
+  i1 += i2;
+  l8 = i1;
+  i32_store_at(i1, a0, 8);
+  i0 = l3;
+  i1 = l4;
+  i2 = 4294967295u;
+  i1 ^= i2;
+  i2 = 7u;
+  i1 &= i2;
+  i0 >>= (i1 & 31);
+  l9 = i0;
+  i0 = p2;
+  if (i0) {goto B4;}
+  i0 = 0u;
+  l3 = i0;
+  i0 = l9;
+  i1 = 1u;
+  i0 &= i1;
+  i0 = !(i0);
+  if (i0) {goto B3;}
+  B4:;
+  i0 = l9;
+  i1 = 1u;
+  i0 &= i1;
+  if (i0) {goto B2;}
+  goto B1;
+  B3:;
+  j0 = p0;
+  i0 = (u32)(j0);
+  i1 = 1u;
+  reach(a1, i0, 0, 4);
+  i32_store_at(i1, a1, 0);
+  j0 = p0;
+  j1 = 8ull;
+  j0 += j1;
+  i0 = (u32)(j0);
+  i1 = l4;
+  i32_store_at(i1, a1, 8);
+  j0 = p0;
+  j1 = 4ull;
+  j0 += j1;
+  i0 = (u32)(j0);
+  i1 = l3;
+  i32_store_at(i1, a1, 4);
+  goto Bfunc;
+  B2:;
+  i0 = l8;
+  i1 = l6;
+  i0 = i0 == i1;
+  if (i0) {goto B6;}
+  j0 = l14;
+  i1 = l8;
+  i2 = 3u;
+  i1 >>= (i2 & 31);
+  j1 = (u64)(i1);
+  j0 += j1;
+  i0 = (u32)(j0);
+  i32_load8_u(i0, i0, 0);
+  l3 = i0;
+  j0 = p1;
+  j1 = 16ull;
+  j0 += j1;
+  i0 = (u32)(j0);
+  i1 = l4;
+  i2 = 2u;
+  i1 += i2;
+  l10 = i1;
+  i32_store_at(i1, a0, 8);
+  i0 = l8;
+  i1 = 0u;
+  i2 = p2;
+  i3 = 2u;
+  i2 = i2 < i3;
+  l11 = i2;
+  i3 = l3;
+  i4 = l8;
+  i5 = 4294967295u;
+  i4 ^= i5;
+  i5 = 7u;
+  i4 &= i5;
+  i3 >>= (i4 & 31);
+  l12 = i3;
+  i2 &= i3;
+  l3 = i2;
+  i0 = i2 ? i0 : i1;
+  l7 = i0;
+  i0 = l3;
+  i1 = 1u;
+  i0 ^= i1;
+  l9 = i0;
+  i0 = l11;
+  if (i0) {goto B0;}
+  i0 = l12;
+  i1 = 1u;
+  i0 &= i1;
+  i0 = !(i0);
+  if (i0) {goto B0;}
+  i0 = 1u;
+  l3 = i0;
+  i0 = l10;
+  i1 = l6;
+  i0 = i0 == i1;
+  if (i0) {goto B5;}
+  j0 = l14;
+  i1 = l10;
+  i2 = 3u;
+  i1 >>= (i2 & 31);
+  j1 = (u64)(i1);
+  j0 += j1;
+  i0 = (u32)(j0);
+  i32_load8_u(i0, i0, 0);
+  l9 = i0;
+  j0 = p1;
+  j1 = 16ull;
+  j0 += j1;
+  i0 = (u32)(j0);
+  i1 = l4;
+  i2 = 3u;
+  i1 += i2;
+  l7 = i1;
+  i32_store_at(i1, a0, 8);
+  i0 = l9;
+  i1 = l10;
+  i2 = 4294967295u;
+  i1 ^= i2;
+  i2 = 7u;
+  i1 &= i2;
+  i0 >>= (i1 & 31);
+  l8 = i0;
+  i0 = 0u;
+  l9 = i0;
+  i0 = p2;
+  i1 = 33u;
+  i0 = i0 > i1;
+  if (i0) {goto B7;}
+  i0 = l8;
+  i1 = 1u;
+  i0 &= i1;
+  i0 = !(i0);
+  if (i0) {goto B7;}
+  i0 = l10;
+  l7 = i0;
+  goto B0;
+  B7:;
+  i0 = p2;
+  i1 = 4294967294u;
+  i0 += i1;
+  l10 = i0;
+  i0 = 1u;
+  l3 = i0;
+  i0 = l8;
+  i1 = 1u;
+  i0 &= i1;
+  i0 = !(i0);
+  if (i0) {goto B10;}
+  i0 = l7;
+  i1 = l6;
+  i0 = i0 == i1;
+  if (i0) {goto B5;}
+  i0 = l4;
+  i1 = l5;
+  i2 = 3u;
+  i1 <<= (i2 & 31);
+  i0 -= i1;
+  l5 = i0;
+  i0 = 3u;
+  p2 = i0;
+  L11:
+    j0 = l14;
+    i1 = l4;
+    i2 = p2;
+    i1 += i2;
+    l7 = i1;
+    i2 = 3u;
+    i1 >>= (i2 & 31);
+    j1 = (u64)(i1);
+    j0 += j1;
+    i0 = (u32)(j0);
+    i32_load8_u(i0, i0, 0);
+    l3 = i0;
+    j0 = p1;
+    j1 = 16ull;
+    j0 += j1;
+    i0 = (u32)(j0);
+    i1 = l7;
+    i2 = 1u;
+    i1 += i2;
+    i32_store_at(i1, a0, 8);
+    i0 = l3;
+    i1 = l7;
+    i2 = 4294967295u;
+    i1 ^= i2;
+    i2 = 7u;
+    i1 &= i2;
+    i0 >>= (i1 & 31);
+    i1 = 1u;
+    i0 &= i1;
+    l3 = i0;
+    if (i0) {goto B12;}
+    i0 = l10;
+    i1 = p2;
+    i2 = 3u;
+    i1 += i2;
+    i0 >>= (i1 & 31);
+    i0 = !(i0);
+    if (i0) {goto B8;}
+    B12:;
+    i0 = l3;
+    if (i0) {goto B13;}
+    i0 = 1u;
+    l3 = i0;
+    i0 = l5;
+    i1 = p2;
+    i2 = 1u;
+    i1 += i2;
+    p2 = i1;
+    i0 += i1;
+    i0 = !(i0);
+    if (i0) {goto B5;}
+    goto L11;
+    B13:;
+  i0 = 1u;
+  l5 = i0;
+  i0 = p2;
+  i1 = 4294967294u;
+  i0 = i0 == i1;
+  if (i0) {goto B9;}
+  i0 = p2;
+  i1 = 1u;
+  i0 += i1;
+  p2 = i0;
+  i1 = l4;
+  i0 += i1;
+  l7 = i0;
+  i0 = 1u;
+  l3 = i0;
+  i0 = 1u;
+  l5 = i0;
+  L14:
+    i0 = l6;
+    i1 = l7;
+    i0 = i0 == i1;
+    if (i0) {goto B5;}
+    j0 = l14;
+    i1 = l7;
+    i2 = 3u;
+    i1 >>= (i2 & 31);
+    j1 = (u64)(i1);
+    j0 += j1;
+    i0 = (u32)(j0);
+    i32_load8_u(i0, i0, 0);
+    l4 = i0;
+    j0 = p1;
+    j1 = 16ull;
+    j0 += j1;
+    i0 = (u32)(j0);
+    i1 = l7;
+    i2 = 1u;
+    i1 += i2;
+    l8 = i1;
+    i32_store_at(i1, a0, 8);
+    i0 = l10;
+    i1 = l5;
+    i2 = 1u;
+    i1 <<= (i2 & 31);
+    i2 = l4;
+    i3 = l7;
+    i4 = 4294967295u;
+    i3 ^= i4;
+    i4 = 7u;
+    i3 &= i4;
+    i2 >>= (i3 & 31);
+    i3 = 1u;
+    i2 &= i3;
+    i1 |= i2;
+    l5 = i1;
+    i2 = p2;
+    i1 <<= (i2 & 31);
+    i0 = i0 < i1;
+    if (i0) {goto B8;}
+    i0 = l8;
+    l7 = i0;
+    i0 = p2;
+    i1 = 4294967295u;
+    i0 += i1;
+    p2 = i0;
+    i1 = 4294967295u;
+    i0 = i0 != i1;
+    if (i0) {goto L14;}
+    goto B9;
+  goto trap;
+  B10:;
+  i0 = l7;
+  i1 = l6;
+  i0 = i0 == i1;
+  if (i0) {goto B5;}
+  j0 = l14;
+  i1 = l7;
+  i2 = 3u;
+  i1 >>= (i2 & 31);
+  j1 = (u64)(i1);
+  j0 += j1;
+  i0 = (u32)(j0);
+  i32_load8_u(i0, i0, 0);
+  l5 = i0;
+  j0 = p1;
+  j1 = 16ull;
+  j0 += j1;
+  i0 = (u32)(j0);
+  i1 = l4;
+  i2 = 4u;
+  i1 += i2;
+  p2 = i1;
+  i32_store_at(i1, a0, 8);
+  i0 = l10;
+  i1 = l5;
+  i2 = l7;
+  i3 = 4294967295u;
+  i2 ^= i3;
+  i3 = 7u;
+  i2 &= i3;
+  i1 >>= (i2 & 31);
+  i2 = 4u;
+  i1 <<= (i2 & 31);
+  i2 = 16u;
+  i1 &= i2;
+  l5 = i1;
+  i0 = i0 < i1;
+  if (i0) {goto B0;}
+  i0 = p2;
+  i1 = l6;
+  i0 = i0 == i1;
+  if (i0) {goto B5;}
+  j0 = l14;
+  i1 = p2;
+  i2 = 3u;
+  i1 >>= (i2 & 31);
+  j1 = (u64)(i1);
+  j0 += j1;
+  i0 = (u32)(j0);
+  i32_load8_u(i0, i0, 0);
+  l8 = i0;
+  j0 = p1;
+  j1 = 16ull;
+  j0 += j1;
+  i0 = (u32)(j0);
+  i1 = l4;
+  i2 = 5u;
+  i1 += i2;
+  l7 = i1;
+  i32_store_at(i1, a0, 8);
+  i0 = l10;
+  i1 = l8;
+  i2 = p2;
+  i3 = 4294967295u;
+  i2 ^= i3;
+  i3 = 7u;
+  i2 &= i3;
+  i1 >>= (i2 & 31);
+  i2 = 3u;
+  i1 <<= (i2 & 31);
+  i2 = 8u;
+  i1 &= i2;
+  i2 = l5;
+  i1 |= i2;
+  l5 = i1;
+  i0 = i0 >= i1;
+  if (i0) {goto B15;}
+  i0 = p2;
+  l7 = i0;
+  goto B0;
+  B15:;
+  i0 = l7;
+  i1 = l6;
+  i0 = i0 == i1;
+  if (i0) {goto B5;}
+  j0 = l14;
+  i1 = l7;
+  i2 = 3u;
+  i1 >>= (i2 & 31);
+  j1 = (u64)(i1);
+  j0 += j1;
+  i0 = (u32)(j0);
+  i32_load8_u(i0, i0, 0);
+  l8 = i0;
+  j0 = p1;
+  j1 = 16ull;
+  j0 += j1;
+  i0 = (u32)(j0);
+  i1 = l4;
+  i2 = 6u;
+  i1 += i2;
+  p2 = i1;
+  i32_store_at(i1, a0, 8);
+  i0 = l10;
+  i1 = l8;
+  i2 = l7;
+  i3 = 4294967295u;
+  i2 ^= i3;
+  i3 = 7u;
+  i2 &= i3;
+  i1 >>= (i2 & 31);
+  i2 = 2u;
+  i1 <<= (i2 & 31);
+  i2 = 4u;
+  i1 &= i2;
+  i2 = l5;
+  i1 |= i2;
+  l5 = i1;
+  i0 = i0 < i1;
+  if (i0) {goto B0;}
+  i0 = p2;
+  i1 = l6;
+  i0 = i0 == i1;
+  if (i0) {goto B5;}
+  j0 = l14;
+  i1 = p2;
+  i2 = 3u;
+  i1 >>= (i2 & 31);
+  j1 = (u64)(i1);
+  j0 += j1;
+  i0 = (u32)(j0);
+  i32_load8_u(i0, i0, 0);
+  l8 = i0;
+  j0 = p1;
+  j1 = 16ull;
+  j0 += j1;
+  i0 = (u32)(j0);
+  i1 = l4;
+  i2 = 7u;
+  i1 += i2;
+  l7 = i1;
+  i32_store_at(i1, a0, 8);
+  i0 = 1u;
+  l3 = i0;
+  i0 = l10;
+  i1 = l8;
+  i2 = p2;
+  i3 = 4294967295u;
+  i2 ^= i3;
+  i3 = 7u;
+  i2 &= i3;
+  i1 >>= (i2 & 31);
+  i2 = 1u;
+  i1 <<= (i2 & 31);
+  i2 = 2u;
+  i1 &= i2;
+  i2 = l5;
+  i1 |= i2;
+  l5 = i1;
+  i0 = i0 >= i1;
+  if (i0) {goto B16;}
+  i0 = p2;
+  l7 = i0;
+  goto B0;
+  B16:;
+  i0 = l7;
+  i1 = l6;
+  i0 = i0 == i1;
+  if (i0) {goto B6;}
+  j0 = l14;
+  i1 = l7;
+  i2 = 3u;
+  i1 >>= (i2 & 31);
+  j1 = (u64)(i1);
+  j0 += j1;
+  i0 = (u32)(j0);
+  i32_load8_u(i0, i0, 0);
+  p2 = i0;
+  j0 = p1;
+  j1 = 16ull;
+  j0 += j1;
+  i0 = (u32)(j0);
+  i1 = l4;
+  i2 = 8u;
+  i1 += i2;
+  i32_store_at(i1, a0, 8);
+  i0 = 1u;
+  l3 = i0;
+  i0 = l10;
+  i1 = p2;
+  i2 = l7;
+  i3 = 4294967295u;
+  i2 ^= i3;
+  i3 = 7u;
+  i2 &= i3;
+  i1 >>= (i2 & 31);
+  i2 = 1u;
+  i1 &= i2;
+  i2 = l5;
+  i1 |= i2;
+  l5 = i1;
+  i0 = i0 < i1;
+  if (i0) {goto B0;}
+  B9:;
+  i0 = l5;
+  i1 = 2u;
+  i0 += i1;
+  l7 = i0;
+  goto B1;
+  B8:;
+  i0 = 1u;
+  l3 = i0;
+  goto B0;
+  B6:;
+  i0 = 1u;
+  l3 = i0;
+  B5:;
+  i0 = 1u;
+  l9 = i0;
+  i0 = l6;
+  l7 = i0;
+  goto B0;
+  B1:;
+  i0 = 0u;
+  l3 = i0;
+  i0 = 0u;
+  l9 = i0;
+  B0:;
+  j0 = p0;
+  i0 = (u32)(j0);
+  i1 = l3;
+  reach(a2, i0, 0, 4);
+  i32_store_at(i1, a2, 0);
+  j0 = p0;
+  j1 = 8ull;
+  j0 += j1;
+  i0 = (u32)(j0);
+  i1 = l7;
+  i32_store_at(i1, a2, 8);
+  j0 = p0;
+  j1 = 4ull;
+  j0 += j1;
+  i0 = (u32)(j0);
+  i1 = l9;
+  i32_store_at(i1, a2, 4);
+  Bfunc:;
+  return;
+  trap:
+  set_broken(m);
+  return;
+}
+
+static void code_f26(uint8_t *const m, const u32 last, u64 p0, u64 p1) {
   u64 l2 = 0;
   u32 i0;
   u64 j0, j1, j2, j3, j4;
@@ -12215,7 +12458,7 @@ static void code_f25(uint8_t *const m, const u32 last, u64 p0, u64 p1) {
   return;
 }
 
-static void code_f26(uint8_t *const m, const u32 last, u64 p0, u64 p1) {
+static void code_f27(uint8_t *const m, const u32 last, u64 p0, u64 p1) {
   u64 l2 = 0;
   u32 i0, i1;
   u64 j0, j1;
@@ -12227,7 +12470,7 @@ static void code_f26(uint8_t *const m, const u32 last, u64 p0, u64 p1) {
   j1 = 8ull;
   j0 += j1;
   j1 = p1;
-  call(code_f25(m, last, j0, j1));
+  call(code_f26(m, last, j0, j1));
   j0 = p0;
   i0 = (u32)(j0);
   j1 = l2;
@@ -12281,7 +12524,7 @@ static void code_f26(uint8_t *const m, const u32 last, u64 p0, u64 p1) {
   return;
 }
 
-static u64 code_f27(uint8_t *const m, const u32 last, u64 p0, u64 p1, u64 p2, u64 p3, u64 p4) {
+static u64 code_f28(uint8_t *const m, const u32 last, u64 p0, u64 p1, u64 p2, u64 p3, u64 p4) {
   u32 i0, i1;
   u64 j0, j1, j2;
   uint8_t *a0;
@@ -12307,7 +12550,7 @@ static u64 code_f27(uint8_t *const m, const u32 last, u64 p0, u64 p1, u64 p2, u6
   if (i0) {goto B1;}
   j0 = p4;
   j1 = p1;
-  call(code_f26(m, last, j0, j1));
+  call(code_f27(m, last, j0, j1));
   B1:;
   j0 = p0;
   j1 = 32ull;
@@ -12395,7 +12638,7 @@ static u64 code_f27(uint8_t *const m, const u32 last, u64 p0, u64 p1, u64 p2, u6
   return 0;
 }
 
-static void code_f28(uint8_t *const m, const u32 last, u64 p0, u64 p1, u64 p2, u64 p3, u32 p4, u64 p5, u64 p6) {
+static void code_f29(uint8_t *const m, const u32 last, u64 p0, u64 p1, u64 p2, u64 p3, u32 p4, u64 p5, u64 p6) {
   u32 l15 = 0, l16 = 0, l17 = 0;
   u64 l7 = 0, l8 = 0, l9 = 0, l10 = 0, l11 = 0, l12 = 0, l13 = 0, l14 = 0;
   u32 i0, i1, i2, i4, i5;
@@ -13156,262 +13399,6 @@ static void code_f28(uint8_t *const m, const u32 last, u64 p0, u64 p1, u64 p2, u
   return;
 }
 
-static void code_f29(uint8_t *const m, const u32 last, u64 p0, u64 p1, u32 p2) {
-  u32 l3 = 0, l4 = 0, l5 = 0, l6 = 0, l7 = 0, l8 = 0, l9 = 0, l10 = 0, l11 = 0;
-  u64 l12 = 0, l13 = 0;
-  u32 i0, i1, i2, i3, i4;
-  u64 j0, j1, j2, j3;
-  uint8_t *a0, *a1;
-  i0 = 0u;
-  l3 = i0;
-  i0 = p2;
-  switch (i0) {
-    case 0: goto B1;
-    case 1: goto B0;
-    default: goto B2;
-  }
-  B2:;
-  i0 = p2;
-  i1 = 33u;
-  i0 = i0 > i1;
-  if (i0) {goto B1;}
-  i0 = p2;
-  i1 = 190u;
-  i0 += i1;
-  l3 = i0;
-  i0 = 8u;
-  p2 = i0;
-  goto B0;
-  B1:;
-  i0 = 7u;
-  i1 = 58u;
-  i2 = p2;
-  i3 = 4294967294u;
-  i2 += i3;
-  l4 = i2;
-  i2 = I32_CLZ(i2);
-  i3 = 1u;
-  i2 <<= (i3 & 31);
-  p2 = i2;
-  i1 -= i2;
-  i0 <<= (i1 & 31);
-  i1 = l4;
-  i0 += i1;
-  l3 = i0;
-  i0 = 61u;
-  i1 = p2;
-  i0 -= i1;
-  p2 = i0;
-  B0:;
-  i0 = p2;
-  j1 = p1;
-  j2 = 8ull;
-  j1 += j2;
-  i1 = (u32)(j1);
-  reach(a0, i1, 0, 4);
-  i64_load_at(j1, a0, 0);
-  l12 = j1;
-  i1 = (u32)(j1);
-  i2 = 3u;
-  i1 <<= (i2 & 31);
-  l5 = i1;
-  j2 = p1;
-  j3 = 16ull;
-  j2 += j3;
-  i2 = (u32)(j2);
-  i32_load_at(i2, a0, 8);
-  l4 = i2;
-  i1 -= i2;
-  i0 = i0 > i1;
-  if (i0) {goto B5;}
-  i0 = l4;
-  i1 = 0u;
-  i2 = l5;
-  i3 = 4294967232u;
-  i2 += i3;
-  l6 = i2;
-  i3 = l6;
-  i4 = l5;
-  i3 = i3 > i4;
-  i1 = i3 ? i1 : i2;
-  l6 = i1;
-  i0 = i0 >= i1;
-  if (i0) {goto B7;}
-  j0 = p1;
-  i0 = (u32)(j0);
-  i64_load(j0, i0, 0);
-  i1 = l4;
-  i2 = 3u;
-  i1 >>= (i2 & 31);
-  j1 = (u64)(i1);
-  l13 = j1;
-  j0 += j1;
-  j1 = l12;
-  j2 = l13;
-  j1 -= j2;
-  i2 = l4;
-  i3 = 7u;
-  i2 &= i3;
-  call(j0 = code_f17(m, last, j0, j1, i2));
-  l12 = j0;
-  goto B6;
-  B7:;
-  j0 = 0ull;
-  j1 = p1;
-  j2 = 24ull;
-  j1 += j2;
-  i1 = (u32)(j1);
-  i64_load(j1, i1, 0);
-  i2 = l4;
-  i3 = l6;
-  i2 -= i3;
-  l6 = i2;
-  j2 = (u64)(i2);
-  j1 <<= (j2 & 63);
-  i2 = l6;
-  i3 = 64u;
-  i2 = i2 == i3;
-  j0 = i2 ? j0 : j1;
-  l12 = j0;
-  B6:;
-  j0 = l12;
-  i1 = 64u;
-  i2 = p2;
-  i1 -= i2;
-  j1 = (u64)(i1);
-  j0 >>= (j1 & 63);
-  i1 = l3;
-  j1 = (u64)(i1);
-  j2 = 18446744073709551615ull;
-  i3 = p2;
-  j3 = (u64)(i3);
-  j2 <<= (j3 & 63);
-  j3 = 18446744073709551615ull;
-  j2 ^= j3;
-  j1 &= j2;
-  i0 = j0 == j1;
-  if (i0) {goto B4;}
-  B5:;
-  i0 = p2;
-  i1 = 4294967295u;
-  i0 += i1;
-  p2 = i0;
-  L8:
-    i0 = 0u;
-    l7 = i0;
-    i0 = p2;
-    i1 = 4294967295u;
-    i0 = i0 != i1;
-    if (i0) {goto B9;}
-    i0 = 0u;
-    l8 = i0;
-    i0 = 0u;
-    l5 = i0;
-    goto B3;
-    B9:;
-    i0 = l5;
-    i1 = l4;
-    i0 = i0 != i1;
-    if (i0) {goto B10;}
-    i0 = 1u;
-    l8 = i0;
-    i0 = 1u;
-    l7 = i0;
-    goto B3;
-    B10:;
-    j0 = p1;
-    i0 = (u32)(j0);
-    i64_load(j0, i0, 0);
-    i1 = l4;
-    i2 = 3u;
-    i1 >>= (i2 & 31);
-    j1 = (u64)(i1);
-    j0 += j1;
-    i0 = (u32)(j0);
-    i32_load8_u(i0, i0, 0);
-    l9 = i0;
-    i0 = 1u;
-    l8 = i0;
-    j0 = p1;
-    j1 = 16ull;
-    j0 += j1;
-    i0 = (u32)(j0);
-    i1 = l4;
-    i2 = 1u;
-    i1 += i2;
-    l6 = i1;
-    i32_store_at(i1, a0, 8);
-    i0 = l4;
-    i1 = 4294967295u;
-    i0 ^= i1;
-    l10 = i0;
-    i0 = l3;
-    i1 = p2;
-    i0 >>= (i1 & 31);
-    l11 = i0;
-    i0 = p2;
-    i1 = 4294967295u;
-    i0 += i1;
-    p2 = i0;
-    i0 = l6;
-    l4 = i0;
-    i0 = l11;
-    i1 = 1u;
-    i0 &= i1;
-    i0 = !(i0);
-    i1 = l9;
-    i2 = l10;
-    i3 = 7u;
-    i2 &= i3;
-    i1 >>= (i2 & 31);
-    i0 ^= i1;
-    i1 = 1u;
-    i0 &= i1;
-    if (i0) {goto L8;}
-  i0 = l6;
-  i1 = 4294967295u;
-  i0 += i1;
-  l5 = i0;
-  goto B3;
-  B4:;
-  j0 = p1;
-  j1 = 16ull;
-  j0 += j1;
-  i0 = (u32)(j0);
-  i1 = l4;
-  i2 = p2;
-  i1 += i2;
-  i32_store_at(i1, a0, 8);
-  i0 = 0u;
-  l8 = i0;
-  i0 = 0u;
-  l7 = i0;
-  i0 = 0u;
-  l5 = i0;
-  B3:;
-  j0 = p0;
-  i0 = (u32)(j0);
-  i1 = l8;
-  reach(a1, i0, 0, 4);
-  i32_store8_at(i1, a1, 0);
-  j0 = p0;
-  j1 = 8ull;
-  j0 += j1;
-  i0 = (u32)(j0);
-  i1 = l5;
-  i32_store_at(i1, a1, 8);
-  j0 = p0;
-  j1 = 4ull;
-  j0 += j1;
-  i0 = (u32)(j0);
-  i1 = l7;
-  i32_store_at(i1, a1, 4);
-  return;
-  trap:
-  set_broken(m);
-  return;
-}
-
 static void code_f30(uint8_t *const m, const u32 last, u64 p0, u64 p1, u64 p2, u64 p3, u32 p4, u64 p5, u64 p6) {
   u32 l15 = 0, l16 = 0, l17 = 0, l18 = 0;
   u64 l7 = 0, l8 = 0, l9 = 0, l10 = 0, l11 = 0, l12 = 0, l13 = 0, l14 = 0;
@@ -13437,7 +13424,7 @@ static void code_f30(uint8_t *const m, const u32 last, u64 p0, u64 p1, u64 p2, u
   i2 = (u32)(j2);
   reach(a1, i2, 0, 0);
   i32_load_at(i2, a1, 0);
-  call(code_f29(m, last, j0, j1, i2));
+  call(code_f31(m, last, j0, j1, i2));
   j0 = l7;
   i0 = (u32)(j0);
   i32_load8_u_at(i0, frame, 0);
@@ -13962,7 +13949,7 @@ static void code_f30(uint8_t *const m, const u32 last, u64 p0, u64 p1, u64 p2, u
   j0 = p1;
   j1 = p6;
   i2 = p4;
-  call(code_f31(m, last, j0, j1, i2));
+  call(code_f32(m, last, j0, j1, i2));
   j0 = p3;
   i0 = (u32)(j0);
   i32_load_at(i0, a14, 0);
@@ -13976,7 +13963,7 @@ static void code_f30(uint8_t *const m, const u32 last, u64 p0, u64 p1, u64 p2, u
   j0 = p1;
   j1 = p6;
   i2 = l16;
-  call(code_f31(m, last, j0, j1, i2));
+  call(code_f32(m, last, j0, j1, i2));
   i0 = 0u;
   l18 = i0;
   i0 = 0u;
@@ -14478,7 +14465,7 @@ static void code_f30(uint8_t *const m, const u32 last, u64 p0, u64 p1, u64 p2, u
   j0 = p1;
   j1 = p6;
   i2 = p4;
-  call(code_f31(m, last, j0, j1, i2));
+  call(code_f32(m, last, j0, j1, i2));
   j0 = p3;
   i0 = (u32)(j0);
   i32_load_at(i0, a25, 0);
@@ -14492,7 +14479,7 @@ static void code_f30(uint8_t *const m, const u32 last, u64 p0, u64 p1, u64 p2, u
   j0 = p1;
   j1 = p6;
   i2 = l16;
-  call(code_f31(m, last, j0, j1, i2));
+  call(code_f32(m, last, j0, j1, i2));
   i0 = 0u;
   l16 = i0;
   i0 = 0u;
@@ -14527,6 +14514,257 @@ static void code_f30(uint8_t *const m, const u32 last, u64 p0, u64 p1, u64 p2, u
 }
 
 static void code_f31(uint8_t *const m, const u32 last, u64 p0, u64 p1, u32 p2) {
+  u32 l3 = 0, l4 = 0, l5 = 0, l6 = 0, l7 = 0, l8 = 0;
+  u64 l9 = 0, l10 = 0, l11 = 0;
+  u32 i0, i1, i2, i3, i4;
+  u64 j0, j1, j2, j3;
+  uint8_t *a0, *a1;
+  i0 = 0u;
+  l3 = i0;
+  i0 = p2;
+  switch (i0) {
+    case 0: goto B1;
+    case 1: goto B0;
+    default: goto B2;
+  }
+  B2:;
+  i0 = p2;
+  i1 = 33u;
+  i0 = i0 > i1;
+  if (i0) {goto B1;}
+  i0 = p2;
+  i1 = 190u;
+  i0 += i1;
+  l3 = i0;
+  i0 = 8u;
+  p2 = i0;
+  goto B0;
+  B1:;
+  i0 = 7u;
+  i1 = 58u;
+  i2 = p2;
+  i3 = 4294967294u;
+  i2 += i3;
+  l3 = i2;
+  i2 = I32_CLZ(i2);
+  i3 = 1u;
+  i2 <<= (i3 & 31);
+  p2 = i2;
+  i1 -= i2;
+  i0 <<= (i1 & 31);
+  i1 = l3;
+  i0 += i1;
+  l3 = i0;
+  i0 = 61u;
+  i1 = p2;
+  i0 -= i1;
+  p2 = i0;
+  B0:;
+  i0 = l3;
+  j0 = (u64)(i0);
+  l9 = j0;
+  i0 = p2;
+  j1 = p1;
+  j2 = 8ull;
+  j1 += j2;
+  i1 = (u32)(j1);
+  reach(a0, i1, 0, 4);
+  i64_load_at(j1, a0, 0);
+  l10 = j1;
+  i1 = (u32)(j1);
+  i2 = 3u;
+  i1 <<= (i2 & 31);
+  l4 = i1;
+  j2 = p1;
+  j3 = 16ull;
+  j2 += j3;
+  i2 = (u32)(j2);
+  i32_load_at(i2, a0, 8);
+  l3 = i2;
+  i1 -= i2;
+  i0 = i0 > i1;
+  if (i0) {goto B4;}
+  i0 = l3;
+  i1 = 0u;
+  i2 = l4;
+  i3 = 4294967232u;
+  i2 += i3;
+  l5 = i2;
+  i3 = l5;
+  i4 = l4;
+  i3 = i3 > i4;
+  i1 = i3 ? i1 : i2;
+  l5 = i1;
+  i0 = i0 >= i1;
+  if (i0) {goto B6;}
+  j0 = p1;
+  i0 = (u32)(j0);
+  i64_load(j0, i0, 0);
+  i1 = l3;
+  i2 = 3u;
+  i1 >>= (i2 & 31);
+  j1 = (u64)(i1);
+  l11 = j1;
+  j0 += j1;
+  j1 = l10;
+  j2 = l11;
+  j1 -= j2;
+  i2 = l3;
+  i3 = 7u;
+  i2 &= i3;
+  call(j0 = code_f17(m, last, j0, j1, i2));
+  l10 = j0;
+  goto B5;
+  B6:;
+  j0 = 0ull;
+  j1 = p1;
+  j2 = 24ull;
+  j1 += j2;
+  i1 = (u32)(j1);
+  i64_load(j1, i1, 0);
+  i2 = l3;
+  i3 = l5;
+  i2 -= i3;
+  l5 = i2;
+  j2 = (u64)(i2);
+  j1 <<= (j2 & 63);
+  i2 = l5;
+  i3 = 64u;
+  i2 = i2 == i3;
+  j0 = i2 ? j0 : j1;
+  l10 = j0;
+  B5:;
+  j0 = l10;
+  i1 = 64u;
+  i2 = p2;
+  i1 -= i2;
+  j1 = (u64)(i1);
+  j0 >>= (j1 & 63);
+  j1 = l9;
+  i0 = j0 != j1;
+  if (i0) {goto B4;}
+  j0 = p1;
+  j1 = 16ull;
+  j0 += j1;
+  i0 = (u32)(j0);
+  i1 = l3;
+  i2 = p2;
+  i1 += i2;
+  i32_store_at(i1, a0, 8);
+  i0 = 0u;
+  l6 = i0;
+  i0 = 0u;
+  l7 = i0;
+  i0 = 0u;
+  l4 = i0;
+  goto B3;
+  B4:;
+  i0 = p2;
+  j0 = (u64)(i0);
+  j1 = 18446744073709551615ull;
+  j0 += j1;
+  l10 = j0;
+  L7:
+    i0 = 0u;
+    l7 = i0;
+    j0 = l10;
+    j1 = 18446744073709551615ull;
+    i0 = j0 != j1;
+    if (i0) {goto B8;}
+    i0 = 0u;
+    l6 = i0;
+    i0 = 0u;
+    l4 = i0;
+    goto B3;
+    B8:;
+    i0 = l4;
+    i1 = l3;
+    i0 = i0 != i1;
+    if (i0) {goto B9;}
+    i0 = 1u;
+    l6 = i0;
+    i0 = 1u;
+    l7 = i0;
+    goto B3;
+    B9:;
+    j0 = p1;
+    i0 = (u32)(j0);
+    i64_load(j0, i0, 0);
+    i1 = l3;
+    i2 = 3u;
+    i1 >>= (i2 & 31);
+    j1 = (u64)(i1);
+    j0 += j1;
+    i0 = (u32)(j0);
+    i32_load8_u(i0, i0, 0);
+    l5 = i0;
+    i0 = 1u;
+    l6 = i0;
+    j0 = p1;
+    j1 = 16ull;
+    j0 += j1;
+    i0 = (u32)(j0);
+    i1 = l3;
+    i2 = 1u;
+    i1 += i2;
+    p2 = i1;
+    i32_store_at(i1, a0, 8);
+    i0 = l3;
+    i1 = 4294967295u;
+    i0 ^= i1;
+    l8 = i0;
+    j0 = l9;
+    j1 = l10;
+    j0 >>= (j1 & 63);
+    l11 = j0;
+    j0 = l10;
+    j1 = 18446744073709551615ull;
+    j0 += j1;
+    l10 = j0;
+    i0 = p2;
+    l3 = i0;
+    j0 = l11;
+    j1 = 1ull;
+    j0 &= j1;
+    i0 = !(j0);
+    i1 = l5;
+    i2 = l8;
+    i3 = 7u;
+    i2 &= i3;
+    i1 >>= (i2 & 31);
+    i0 ^= i1;
+    i1 = 1u;
+    i0 &= i1;
+    if (i0) {goto L7;}
+  i0 = p2;
+  i1 = 4294967295u;
+  i0 += i1;
+  l4 = i0;
+  B3:;
+  j0 = p0;
+  i0 = (u32)(j0);
+  i1 = l6;
+  reach(a1, i0, 0, 4);
+  i32_store8_at(i1, a1, 0);
+  j0 = p0;
+  j1 = 8ull;
+  j0 += j1;
+  i0 = (u32)(j0);
+  i1 = l4;
+  i32_store_at(i1, a1, 8);
+  j0 = p0;
+  j1 = 4ull;
+  j0 += j1;
+  i0 = (u32)(j0);
+  i1 = l7;
+  i32_store_at(i1, a1, 4);
+  return;
+  trap:
+  set_broken(m);
+  return;
+}
+
+static void code_f32(uint8_t *const m, const u32 last, u64 p0, u64 p1, u32 p2) {
   u32 l3 = 0, l4 = 0, l5 = 0, l6 = 0;
   u64 l7 = 0, l8 = 0, l9 = 0, l10 = 0;
   u32 i0, i1, i2, i3, i4;
@@ -14757,7 +14995,7 @@ static void code_f31(uint8_t *const m, const u32 last, u64 p0, u64 p1, u32 p2) {
   return;
 }
 
-static void code_f32(uint8_t *const m, const u32 last, u64 p0, u32 p1) {
+static void code_f33(uint8_t *const m, const u32 last, u64 p0, u32 p1) {
   u32 l35 = 0;
   u64 l2 = 0, l3 = 0, l4 = 0, l5 = 0, l6 = 0, l7 = 0, l8 = 0, l9 = 0, l10 = 0, l11 = 0, l12 = 0, l13 = 0, l14 = 0, l15 = 0, l16 = 0, l17 = 0, l18 = 0, l19 = 0, l20 = 0, l21 = 0, l22 = 0, l23 = 0, l24 = 0, l25 = 0, l26 = 0, l27 = 0, l28 = 0, l29 = 0, l30 = 0, l31 = 0, l32 = 0, l33 = 0, l34 = 0;
   u32 i0, i1, i2;
@@ -14931,7 +15169,7 @@ static void code_f32(uint8_t *const m, const u32 last, u64 p0, u32 p1) {
   j1 = 128ull;
   j0 += j1;
   i1 = p1;
-  call(code_f33(m, last, j0, i1));
+  call(code_f34(m, last, j0, i1));
   j0 = l2;
   i0 = (u32)(j0);
   i32_load8_u_at(i0, frame, 128);
@@ -14992,7 +15230,7 @@ static void code_f32(uint8_t *const m, const u32 last, u64 p0, u32 p1) {
   j1 = 216ull;
   j0 += j1;
   i1 = p1;
-  call(code_f33(m, last, j0, i1));
+  call(code_f34(m, last, j0, i1));
   j0 = l2;
   i0 = (u32)(j0);
   i32_load8_u_at(i0, frame, 216);
@@ -15206,7 +15444,7 @@ static void code_f32(uint8_t *const m, const u32 last, u64 p0, u32 p1) {
     j1 = 304ull;
     j0 += j1;
     j1 = 0ull;
-    call(code_f25(m, last, j0, j1));
+    call(code_f26(m, last, j0, j1));
     j0 = l27;
     i0 = (u32)(j0);
     j1 = l2;
@@ -15740,7 +15978,7 @@ static void code_f32(uint8_t *const m, const u32 last, u64 p0, u32 p1) {
   return;
 }
 
-static void code_f33(uint8_t *const m, const u32 last, u64 p0, u32 p1) {
+static void code_f34(uint8_t *const m, const u32 last, u64 p0, u32 p1) {
   u32 l7 = 0;
   u64 l2 = 0, l3 = 0, l4 = 0, l5 = 0, l6 = 0;
   u32 i0, i1, i2;
@@ -15958,7 +16196,7 @@ static void code_f33(uint8_t *const m, const u32 last, u64 p0, u32 p1) {
   return;
 }
 
-static void code_f34(uint8_t *const m, const u32 last, u64 p0, u64 p1, u64 p2, u64 p3, u64 p4) {
+static void code_f35(uint8_t *const m, const u32 last, u64 p0, u64 p1, u64 p2, u64 p3, u64 p4) {
   u32 l5 = 0, l6 = 0, l7 = 0, l8 = 0, l9 = 0;
   u64 l10 = 0, l11 = 0, l12 = 0, l13 = 0;
   u32 i0, i1, i2, i3, i4, i5;
@@ -16330,7 +16568,7 @@ static void code_f34(uint8_t *const m, const u32 last, u64 p0, u64 p1, u64 p2, u
   return;
 }
 
-static void code_f35(uint8_t *const m, const u32 last, u64 p0, u64 p1, u64 p2, u32 p3, u64 p4) {
+static void code_f36(uint8_t *const m, const u32 last, u64 p0, u64 p1, u64 p2, u32 p3, u64 p4) {
   u32 l19 = 0, l20 = 0, l21 = 0, l22 = 0, l23 = 0, l24 = 0, l25 = 0, l26 = 0;
   u64 l5 = 0, l6 = 0, l7 = 0, l8 = 0, l9 = 0, l10 = 0, l11 = 0, l12 = 0, l13 = 0, l14 = 0, l15 = 0, l16 = 0, l17 = 0, l18 = 0;
   u32 i0, i1, i2, i3, i4, i5;
@@ -18989,7 +19227,7 @@ static void code_f35(uint8_t *const m, const u32 last, u64 p0, u64 p1, u64 p2, u
   j4 = l9;
   i4 = (u32)(j4);
   i32_load8_u_at(i4, a65, 80);
-  call(i1 = code_f36(m, last, j1, i2, j3, i4));
+  call(i1 = code_f37(m, last, j1, i2, j3, i4));
   l23 = i1;
   i32_store8_at(i1, a65, 80);
   j0 = p2;
@@ -19195,7 +19433,7 @@ static void code_f35(uint8_t *const m, const u32 last, u64 p0, u64 p1, u64 p2, u
   j4 = l9;
   i4 = (u32)(j4);
   i32_load8_u_at(i4, a67, 80);
-  call(i1 = code_f36(m, last, j1, i2, j3, i4));
+  call(i1 = code_f37(m, last, j1, i2, j3, i4));
   l23 = i1;
   i32_store8_at(i1, a67, 80);
   j0 = p2;
@@ -19564,7 +19802,7 @@ static void code_f35(uint8_t *const m, const u32 last, u64 p0, u64 p1, u64 p2, u
   j4 = l12;
   i4 = (u32)(j4);
   i32_load8_u_at(i4, a74, 80);
-  call(i1 = code_f36(m, last, j1, i2, j3, i4));
+  call(i1 = code_f37(m, last, j1, i2, j3, i4));
   l23 = i1;
   i32_store8_at(i1, a74, 80);
   j0 = l8;
@@ -19731,7 +19969,7 @@ static void code_f35(uint8_t *const m, const u32 last, u64 p0, u64 p1, u64 p2, u
   p2 = j0;
   j1 = 1ull;
   i2 = 1u;
-  call(code_f37(m, last, j0, j1, i2));
+  call(code_f38(m, last, j0, j1, i2));
   j0 = p2;
   j1 = p1;
   j2 = p0;
@@ -19747,7 +19985,7 @@ static void code_f35(uint8_t *const m, const u32 last, u64 p0, u64 p1, u64 p2, u
   j4 += j5;
   i4 = (u32)(j4);
   i64_load_at(j4, a76, 55);
-  call(code_f38(m, last, j0, j1, j2, j3, j4));
+  call(code_f39(m, last, j0, j1, j2, j3, j4));
   j0 = p0;
   j1 = 257ull;
   j0 += j1;
@@ -19763,7 +20001,7 @@ static void code_f35(uint8_t *const m, const u32 last, u64 p0, u64 p1, u64 p2, u
   j2 = 32ull;
   j1 += j2;
   i2 = 6u;
-  call(code_f37(m, last, j0, j1, i2));
+  call(code_f38(m, last, j0, j1, i2));
   j0 = p0;
   j1 = 352ull;
   j0 += j1;
@@ -19945,7 +20183,7 @@ static void code_f35(uint8_t *const m, const u32 last, u64 p0, u64 p1, u64 p2, u
     j0 = p4;
     j1 = l9;
     i2 = 64u;
-    call(code_f37(m, last, j0, j1, i2));
+    call(code_f38(m, last, j0, j1, i2));
     j0 = l8;
     j1 = 18446744073709551608ull;
     j0 += j1;
@@ -19978,7 +20216,7 @@ static void code_f35(uint8_t *const m, const u32 last, u64 p0, u64 p1, u64 p2, u
   j2 = (u64)(i2);
   j1 >>= (j2 & 63);
   i2 = l26;
-  call(code_f37(m, last, j0, j1, i2));
+  call(code_f38(m, last, j0, j1, i2));
   B100:;
   j0 = l11;
   i0 = (u32)(j0);
@@ -20005,14 +20243,14 @@ static void code_f35(uint8_t *const m, const u32 last, u64 p0, u64 p1, u64 p2, u
   B3:;
   j0 = p4;
   j1 = p2;
-  call(code_f39(m, last, j0, j1));
+  call(code_f40(m, last, j0, j1));
   j0 = p4;
   i1 = l26;
   j1 = (u64)(i1);
   j2 = 255ull;
   j1 &= j2;
   i2 = 4u;
-  call(code_f37(m, last, j0, j1, i2));
+  call(code_f38(m, last, j0, j1, i2));
   i0 = l26;
   i1 = 255u;
   i0 &= i1;
@@ -20269,7 +20507,7 @@ static void code_f35(uint8_t *const m, const u32 last, u64 p0, u64 p1, u64 p2, u
   j0 = p4;
   j1 = 1ull;
   i2 = 1u;
-  call(code_f37(m, last, j0, j1, i2));
+  call(code_f38(m, last, j0, j1, i2));
   j0 = p0;
   j1 = 232ull;
   j0 += j1;
@@ -20354,13 +20592,13 @@ static void code_f35(uint8_t *const m, const u32 last, u64 p0, u64 p1, u64 p2, u
     B112:;
     j0 = l9;
     j1 = p2;
-    call(j0 = code_f40(m, last, j0, j1));
+    call(j0 = code_f41(m, last, j0, j1));
     l8 = j0;
     B111:;
     j0 = p4;
     j1 = l8;
     i2 = l23;
-    call(code_f37(m, last, j0, j1, i2));
+    call(code_f38(m, last, j0, j1, i2));
     B110:;
     j0 = l14;
     j1 = 1ull;
@@ -20386,7 +20624,7 @@ static void code_f35(uint8_t *const m, const u32 last, u64 p0, u64 p1, u64 p2, u
   i1 = i1 != i2;
   j1 = (u64)(i1);
   i2 = 1u;
-  call(code_f37(m, last, j0, j1, i2));
+  call(code_f38(m, last, j0, j1, i2));
   goto B1;
   B2:;
   j0 = p4;
@@ -20397,7 +20635,7 @@ static void code_f35(uint8_t *const m, const u32 last, u64 p0, u64 p1, u64 p2, u
   j2 = 32ull;
   j1 += j2;
   i2 = 6u;
-  call(code_f37(m, last, j0, j1, i2));
+  call(code_f38(m, last, j0, j1, i2));
   i0 = 0u;
   l23 = i0;
   B1:;
@@ -20410,7 +20648,7 @@ static void code_f35(uint8_t *const m, const u32 last, u64 p0, u64 p1, u64 p2, u
   j2 = 1ull;
   j1 &= j2;
   i2 = 1u;
-  call(code_f37(m, last, j0, j1, i2));
+  call(code_f38(m, last, j0, j1, i2));
   i0 = l26;
   i1 = 1u;
   i0 &= i1;
@@ -20421,7 +20659,7 @@ static void code_f35(uint8_t *const m, const u32 last, u64 p0, u64 p1, u64 p2, u
   j2 = 1ull;
   j1 &= j2;
   i2 = 1u;
-  call(code_f37(m, last, j0, j1, i2));
+  call(code_f38(m, last, j0, j1, i2));
   i0 = p3;
   i1 = 1u;
   i0 &= i1;
@@ -20560,7 +20798,7 @@ static void code_f35(uint8_t *const m, const u32 last, u64 p0, u64 p1, u64 p2, u
   B116:;
   j0 = p4;
   j1 = l12;
-  call(code_f39(m, last, j0, j1));
+  call(code_f40(m, last, j0, j1));
   B115:;
   j0 = p4;
   i1 = l24;
@@ -20568,7 +20806,7 @@ static void code_f35(uint8_t *const m, const u32 last, u64 p0, u64 p1, u64 p2, u
   j2 = 1ull;
   j1 &= j2;
   i2 = 1u;
-  call(code_f37(m, last, j0, j1, i2));
+  call(code_f38(m, last, j0, j1, i2));
   B114:;
   i0 = l24;
   i1 = 1u;
@@ -20577,7 +20815,7 @@ static void code_f35(uint8_t *const m, const u32 last, u64 p0, u64 p1, u64 p2, u
   if (i0) {goto B120;}
   j0 = p4;
   j1 = p1;
-  call(code_f41(m, last, j0, j1));
+  call(code_f42(m, last, j0, j1));
   goto B119;
   B120:;
   i0 = l23;
@@ -20875,7 +21113,7 @@ static void code_f35(uint8_t *const m, const u32 last, u64 p0, u64 p1, u64 p2, u
   j4 += j5;
   i4 = (u32)(j4);
   i64_load_at(j4, a94, 8);
-  call(code_f38(m, last, j0, j1, j2, j3, j4));
+  call(code_f39(m, last, j0, j1, j2, j3, j4));
   goto B119;
   B121:;
   j0 = p4;
@@ -20892,7 +21130,7 @@ static void code_f35(uint8_t *const m, const u32 last, u64 p0, u64 p1, u64 p2, u
   j4 += j5;
   i4 = (u32)(j4);
   i64_load_at(j4, a95, 8);
-  call(code_f38(m, last, j0, j1, j2, j3, j4));
+  call(code_f39(m, last, j0, j1, j2, j3, j4));
   B119:;
   j0 = p0;
   j1 = 376ull;
@@ -20911,7 +21149,7 @@ static void code_f35(uint8_t *const m, const u32 last, u64 p0, u64 p1, u64 p2, u
   return;
 }
 
-static u32 code_f36(uint8_t *const m, const u32 last, u64 p0, u32 p1, u64 p2, u32 p3) {
+static u32 code_f37(uint8_t *const m, const u32 last, u64 p0, u32 p1, u64 p2, u32 p3) {
   u64 l4 = 0, l5 = 0, l6 = 0, l7 = 0, l8 = 0, l9 = 0, l10 = 0, l11 = 0, l12 = 0, l13 = 0;
   u32 i0, i1, i2, i3, i4;
   u64 j0, j1, j2, j3, j4, j5;
@@ -21180,7 +21418,7 @@ static u32 code_f36(uint8_t *const m, const u32 last, u64 p0, u32 p1, u64 p2, u3
   return 0;
 }
 
-static void code_f37(uint8_t *const m, const u32 last, u64 p0, u64 p1, u32 p2) {
+static void code_f38(uint8_t *const m, const u32 last, u64 p0, u64 p1, u32 p2) {
   u32 l6 = 0;
   u64 l3 = 0, l4 = 0, l5 = 0;
   u32 i0, i1, i2, i3, i4;
@@ -21317,7 +21555,7 @@ static void code_f37(uint8_t *const m, const u32 last, u64 p0, u64 p1, u32 p2) {
   return;
 }
 
-static void code_f38(uint8_t *const m, const u32 last, u64 p0, u64 p1, u64 p2, u64 p3, u64 p4) {
+static void code_f39(uint8_t *const m, const u32 last, u64 p0, u64 p1, u64 p2, u64 p3, u64 p4) {
   u32 l5 = 0, l6 = 0, l7 = 0;
   u64 l8 = 0, l9 = 0, l10 = 0, l11 = 0;
   u32 i0, i1, i2, i5;
@@ -21375,7 +21613,7 @@ static void code_f38(uint8_t *const m, const u32 last, u64 p0, u64 p1, u64 p2, u
     j0 = p0;
     j1 = l8;
     i2 = l6;
-    call(code_f37(m, last, j0, j1, i2));
+    call(code_f38(m, last, j0, j1, i2));
     B4:;
     j0 = p0;
     j1 = p1;
@@ -21383,7 +21621,7 @@ static void code_f38(uint8_t *const m, const u32 last, u64 p0, u64 p1, u64 p2, u
     j3 = p3;
     j4 = p4;
     i5 = l5;
-    call(i0 = code_f42(m, last, j0, j1, j2, j3, j4, i5));
+    call(i0 = code_f43(m, last, j0, j1, j2, j3, j4, i5));
     l5 = i0;
     i0 = 0u;
     l6 = i0;
@@ -21402,7 +21640,7 @@ static void code_f38(uint8_t *const m, const u32 last, u64 p0, u64 p1, u64 p2, u
     j0 = p0;
     j1 = l8;
     i2 = l6;
-    call(code_f37(m, last, j0, j1, i2));
+    call(code_f38(m, last, j0, j1, i2));
     j0 = 0ull;
     l8 = j0;
     i0 = 0u;
@@ -21449,7 +21687,7 @@ static void code_f38(uint8_t *const m, const u32 last, u64 p0, u64 p1, u64 p2, u
   j0 = p0;
   j1 = l8;
   i2 = l6;
-  call(code_f37(m, last, j0, j1, i2));
+  call(code_f38(m, last, j0, j1, i2));
   B7:;
   return;
   trap:
@@ -21457,9 +21695,9 @@ static void code_f38(uint8_t *const m, const u32 last, u64 p0, u64 p1, u64 p2, u
   return;
 }
 
-static void code_f39(uint8_t *const m, const u32 last, u64 p0, u64 p1) {
-  u32 l2 = 0, l3 = 0, l4 = 0, l5 = 0, l6 = 0;
-  u64 l7 = 0, l8 = 0;
+static void code_f40(uint8_t *const m, const u32 last, u64 p0, u64 p1) {
+  u32 l2 = 0, l3 = 0, l4 = 0, l5 = 0, l6 = 0, l7 = 0;
+  u64 l8 = 0, l9 = 0, l10 = 0;
   u32 i0, i1, i2, i3;
   u64 j0, j1, j2;
   uint8_t *a0;
@@ -21484,9 +21722,13 @@ static void code_f39(uint8_t *const m, const u32 last, u64 p0, u64 p1) {
   j0 += j1;
   i0 = (u32)(j0);
   i64_load(j0, i0, 0);
-  l7 = j0;
+  l8 = j0;
+  i0 = 0u;
+  l4 = i0;
+  j0 = 0ull;
+  l9 = j0;
   L0:
-    j0 = l7;
+    j0 = l8;
     j1 = 0ull;
     i0 = j0 != j1;
     if (i0) {goto B1;}
@@ -21496,17 +21738,17 @@ static void code_f39(uint8_t *const m, const u32 last, u64 p0, u64 p1) {
     j0 = p1;
     i0 = (u32)(j0);
     i64_load_at(j0, a0, 0);
-    l7 = j0;
+    l8 = j0;
     i0 = l3;
     i1 = 6u;
     i0 <<= (i1 & 31);
-    l4 = i0;
+    l5 = i0;
     L3:
-      j0 = l7;
-      i1 = l4;
+      j0 = l8;
+      i1 = l5;
       i2 = 4294967295u;
       i1 += i2;
-      l4 = i1;
+      l5 = i1;
       i2 = 3u;
       i1 >>= (i2 & 31);
       i2 = 536870904u;
@@ -21515,12 +21757,12 @@ static void code_f39(uint8_t *const m, const u32 last, u64 p0, u64 p1) {
       j0 += j1;
       i0 = (u32)(j0);
       i64_load(j0, i0, 0);
-      l8 = j0;
+      l10 = j0;
       i0 = !(j0);
       if (i0) {goto B4;}
-      j0 = l7;
-      i1 = l4;
-      j2 = l8;
+      j0 = l8;
+      i1 = l5;
+      j2 = l10;
       j2 = I64_CTZ(j2);
       i2 = (u32)(j2);
       i1 -= i2;
@@ -21533,88 +21775,125 @@ static void code_f39(uint8_t *const m, const u32 last, u64 p0, u64 p1) {
       j0 += j1;
       i0 = (u32)(j0);
       i64_load(j0, i0, 0);
-      l7 = j0;
+      l8 = j0;
       goto B1;
       B4:;
-      i0 = l4;
+      i0 = l5;
       i1 = 4294967232u;
       i0 &= i1;
-      l4 = i0;
+      l5 = i0;
       if (i0) {goto L3;}
     B2:;
     j0 = p0;
-    j1 = 2ull;
-    i2 = 2u;
-    call(code_f37(m, last, j0, j1, i2));
+    j1 = l9;
+    j2 = 2ull;
+    j1 <<= (j2 & 63);
+    j2 = 2ull;
+    j1 |= j2;
+    i2 = l4;
+    i3 = 2u;
+    i2 += i3;
+    call(code_f38(m, last, j0, j1, i2));
     goto Bfunc;
     B1:;
-    j0 = l7;
+    j0 = l8;
     j1 = 18446744073709551615ull;
     j0 += j1;
-    l8 = j0;
-    i0 = 0u;
-    l5 = i0;
-    i0 = l2;
-    i1 = l3;
-    i2 = 6u;
-    i1 <<= (i2 & 31);
-    i2 = 63u;
-    i1 |= i2;
-    j2 = l7;
-    j2 = I64_CTZ(j2);
-    i2 = (u32)(j2);
-    i1 -= i2;
-    l6 = i1;
+    l10 = j0;
+    i0 = l3;
+    i1 = 6u;
+    i0 <<= (i1 & 31);
+    i1 = 63u;
+    i0 |= i1;
+    j1 = l8;
+    j1 = I64_CTZ(j1);
+    i1 = (u32)(j1);
     i0 -= i1;
-    l4 = i0;
-    switch (i0) {
-      case 0: goto B6;
-      case 1: goto B5;
-      default: goto B7;
-    }
-    B7:;
+    l5 = i0;
     i0 = l4;
+    i1 = 34u;
+    i0 = i0 < i1;
+    if (i0) {goto B5;}
+    j0 = p0;
+    j1 = l9;
+    i2 = l4;
+    call(code_f38(m, last, j0, j1, i2));
+    j0 = 0ull;
+    l9 = j0;
+    i0 = 0u;
+    l4 = i0;
+    B5:;
+    j0 = l10;
+    j1 = l8;
+    j0 &= j1;
+    l8 = j0;
+    i0 = l2;
+    i1 = l5;
+    i0 -= i1;
+    l2 = i0;
+    switch (i0) {
+      case 0: goto B7;
+      case 1: goto B9;
+      default: goto B8;
+    }
+    B9:;
+    i0 = l4;
+    i1 = 1u;
+    i0 += i1;
+    l4 = i0;
+    j0 = l9;
+    j1 = 1ull;
+    j0 <<= (j1 & 63);
+    l9 = j0;
+    i0 = l5;
+    l2 = i0;
+    goto L0;
+    B8:;
+    i0 = l2;
     i1 = 33u;
     i0 = i0 > i1;
-    if (i0) {goto B6;}
-    i0 = l4;
+    if (i0) {goto B7;}
+    i0 = l2;
     i1 = 190u;
     i0 += i1;
-    l5 = i0;
+    l6 = i0;
     i0 = 8u;
-    l4 = i0;
-    goto B5;
-    B6:;
+    l2 = i0;
+    goto B6;
+    B7:;
     i0 = 7u;
     i1 = 58u;
-    i2 = l4;
+    i2 = l2;
     i3 = 4294967294u;
     i2 += i3;
-    l4 = i2;
+    l2 = i2;
     i2 = I32_CLZ(i2);
     i3 = 1u;
     i2 <<= (i3 & 31);
-    l2 = i2;
+    l7 = i2;
     i1 -= i2;
     i0 <<= (i1 & 31);
+    i1 = l2;
+    i0 += i1;
+    l6 = i0;
+    i0 = 61u;
+    i1 = l7;
+    i0 -= i1;
+    l2 = i0;
+    B6:;
+    i0 = l2;
     i1 = l4;
     i0 += i1;
-    l5 = i0;
-    i0 = 61u;
-    i1 = l2;
-    i0 -= i1;
     l4 = i0;
-    B5:;
-    j0 = l8;
-    j1 = l7;
-    j0 &= j1;
-    l7 = j0;
-    j0 = p0;
-    i1 = l5;
+    j0 = l9;
+    i1 = l2;
     j1 = (u64)(i1);
-    i2 = l4;
-    call(code_f37(m, last, j0, j1, i2));
-    i0 = l6;
+    j0 <<= (j1 & 63);
+    i1 = l6;
+    j1 = (u64)(i1);
+    j0 += j1;
+    l9 = j0;
+    i0 = l5;
     l2 = i0;
     goto L0;
   goto trap;
@@ -21625,7 +21904,7 @@ static void code_f39(uint8_t *const m, const u32 last, u64 p0, u64 p1) {
   return;
 }
 
-static u64 code_f40(uint8_t *const m, const u32 last, u64 p0, u64 p1) {
+static u64 code_f41(uint8_t *const m, const u32 last, u64 p0, u64 p1) {
   u64 l2 = 0, l3 = 0, l4 = 0, l5 = 0, l6 = 0, l7 = 0, l8 = 0;
   u32 i0;
   u64 j0, j1, j2, j3, j4, j5, j6, j7;
@@ -21637,7 +21916,7 @@ static u64 code_f40(uint8_t *const m, const u32 last, u64 p0, u64 p1) {
   j1 = 8ull;
   j0 += j1;
   j1 = p1;
-  call(code_f25(m, last, j0, j1));
+  call(code_f26(m, last, j0, j1));
   j0 = l2;
   i0 = (u32)(j0);
   i64_load_at(j0, frame, 8);
@@ -21648,7 +21927,7 @@ static u64 code_f40(uint8_t *const m, const u32 last, u64 p0, u64 p1) {
   j1 = 8ull;
   j0 += j1;
   j1 = p1;
-  call(code_f26(m, last, j0, j1));
+  call(code_f27(m, last, j0, j1));
   B0:;
   j0 = l2;
   i0 = (u32)(j0);
@@ -21747,7 +22026,7 @@ static u64 code_f40(uint8_t *const m, const u32 last, u64 p0, u64 p1) {
   return 0;
 }
 
-static void code_f41(uint8_t *const m, const u32 last, u64 p0, u64 p1) {
+static void code_f42(uint8_t *const m, const u32 last, u64 p0, u64 p1) {
   u32 l2 = 0, l3 = 0, l4 = 0;
   u64 l5 = 0, l6 = 0, l7 = 0;
   u32 i0, i1, i2, i3, i4, i5;
@@ -21804,7 +22083,7 @@ static void code_f41(uint8_t *const m, const u32 last, u64 p0, u64 p1) {
   i1 = l2;
   j1 = (u64)(i1);
   i2 = l3;
-  call(code_f37(m, last, j0, j1, i2));
+  call(code_f38(m, last, j0, j1, i2));
   j0 = p1;
   j1 = 8ull;
   j0 += j1;
@@ -21836,7 +22115,7 @@ static void code_f41(uint8_t *const m, const u32 last, u64 p0, u64 p1) {
     i1 = (u32)(j1);
     i64_load(j1, i1, 0);
     i2 = 64u;
-    call(code_f37(m, last, j0, j1, i2));
+    call(code_f38(m, last, j0, j1, i2));
     j0 = l7;
     j1 = l5;
     j2 = 8ull;
@@ -21872,14 +22151,14 @@ static void code_f41(uint8_t *const m, const u32 last, u64 p0, u64 p1) {
   j2 = (u64)(i2);
   j1 >>= (j2 & 63);
   i2 = l3;
-  call(code_f37(m, last, j0, j1, i2));
+  call(code_f38(m, last, j0, j1, i2));
   return;
   trap:
   set_broken(m);
   return;
 }
 
-static u32 code_f42(uint8_t *const m, const u32 last, u64 p0, u64 p1, u64 p2, u64 p3, u64 p4, u32 p5) {
+static u32 code_f43(uint8_t *const m, const u32 last, u64 p0, u64 p1, u64 p2, u64 p3, u64 p4, u32 p5) {
   u32 l6 = 0;
   u64 l7 = 0, l8 = 0, l9 = 0, l10 = 0;
   u32 i0, i1, i2, i3;
@@ -21918,9 +22197,9 @@ static u32 code_f42(uint8_t *const m, const u32 last, u64 p0, u64 p1, u64 p2, u6
   j4 = p3;
   j5 = p4;
   j6 = l7;
-  call(j1 = code_f43(m, last, j1, j2, i3, j4, j5, j6));
+  call(j1 = code_f44(m, last, j1, j2, i3, j4, j5, j6));
   i2 = p5;
-  call(code_f37(m, last, j0, j1, i2));
+  call(code_f38(m, last, j0, j1, i2));
   i0 = l6;
   i0 = !(i0);
   if (i0) {goto B1;}
@@ -21961,9 +22240,9 @@ static u32 code_f42(uint8_t *const m, const u32 last, u64 p0, u64 p1, u64 p2, u6
     j4 = p3;
     j5 = p4;
     j6 = l7;
-    call(j1 = code_f43(m, last, j1, j2, i3, j4, j5, j6));
+    call(j1 = code_f44(m, last, j1, j2, i3, j4, j5, j6));
     i2 = l6;
-    call(code_f37(m, last, j0, j1, i2));
+    call(code_f38(m, last, j0, j1, i2));
     i0 = p5;
     l6 = i0;
     i0 = p5;
@@ -21979,7 +22258,7 @@ static u32 code_f42(uint8_t *const m, const u32 last, u64 p0, u64 p1, u64 p2, u6
   return 0;
 }
 
-static u64 code_f43(uint8_t *const m, const u32 last, u64 p0, u64 p1, u32 p2, u64 p3, u64 p4, u64 p5) {
+static u64 code_f44(uint8_t *const m, const u32 last, u64 p0, u64 p1, u32 p2, u64 p3, u64 p4, u64 p5) {
   u32 i0, i1, i2;
   u64 j0, j1, j2, j3, j4;
   uint8_t *a0;
@@ -21993,7 +22272,7 @@ static u64 code_f43(uint8_t *const m, const u32 last, u64 p0, u64 p1, u32 p2, u6
   if (i0) {goto B1;}
   j0 = p0;
   j1 = p1;
-  call(j0 = code_f40(m, last, j0, j1));
+  call(j0 = code_f41(m, last, j0, j1));
   p0 = j0;
   goto B0;
   B1:;
@@ -22010,7 +22289,7 @@ static u64 code_f43(uint8_t *const m, const u32 last, u64 p0, u64 p1, u32 p2, u6
   if (i0) {goto B2;}
   j0 = p5;
   j1 = p1;
-  call(code_f26(m, last, j0, j1));
+  call(code_f27(m, last, j0, j1));
   B2:;
   j0 = p5;
   j1 = 8ull;
@@ -22189,7 +22468,7 @@ static u64 code_f43(uint8_t *const m, const u32 last, u64 p0, u64 p1, u32 p2, u6
   return 0;
 }
 
-static void code_f44(uint8_t *const m, const u32 last, u64 p0) {
+static void code_f45(uint8_t *const m, const u32 last, u64 p0) {
   u64 l1 = 0, l2 = 0, l3 = 0, l4 = 0, l5 = 0, l6 = 0, l7 = 0;
   u32 i0, i1, i2, i4;
   u64 j0, j1, j2, j3, j4, j5;
@@ -22314,7 +22593,7 @@ static void code_f44(uint8_t *const m, const u32 last, u64 p0) {
   return;
 }
 
-static u32 code_f45(uint8_t *const m, const u32 last, u64 p0) {
+static u32 code_f46(uint8_t *const m, const u32 last, u64 p0) {
   u32 l6 = 0;
   u64 l1 = 0, l2 = 0, l3 = 0, l4 = 0, l5 = 0;
   u32 i0, i1, i2;
@@ -22441,7 +22720,7 @@ static u32 code_f45(uint8_t *const m, const u32 last, u64 p0) {
   return 0;
 }
 
-static void code_f46(uint8_t *const m, const u32 last, u64 p0, u32 p1, u64 p2, u64 p3) {
+static void code_f47(uint8_t *const m, const u32 last, u64 p0, u32 p1, u64 p2, u64 p3) {
   u32 l9 = 0, l10 = 0, l11 = 0, l12 = 0;
   u64 l4 = 0, l5 = 0, l6 = 0, l7 = 0, l8 = 0;
   u32 i0, i1, i2, i3, i4;
@@ -22704,7 +22983,7 @@ static void code_f46(uint8_t *const m, const u32 last, u64 p0, u32 p1, u64 p2, u
     j3 = 32ull;
     j2 += j3;
     j3 = p3;
-    call(j1 = code_f47(m, last, j1, j2, j3));
+    call(j1 = code_f48(m, last, j1, j2, j3));
     l5 = j1;
     j0 -= j1;
     j1 = 31ull;
@@ -22962,7 +23241,7 @@ static void code_f46(uint8_t *const m, const u32 last, u64 p0, u32 p1, u64 p2, u
   return;
 }
 
-static u64 code_f47(uint8_t *const m, const u32 last, u64 p0, u64 p1, u64 p2) {
+static u64 code_f48(uint8_t *const m, const u32 last, u64 p0, u64 p1, u64 p2) {
   u64 l3 = 0, l4 = 0, l5 = 0;
   u32 i0, i1;
   u64 j0, j1, j2;
@@ -23133,7 +23412,7 @@ static u64 code_f47(uint8_t *const m, const u32 last, u64 p0, u64 p1, u64 p2) {
   return 0;
 }
 
-static u32 code_f48(uint8_t *const m, const u32 last, u64 p0, u64 p1, u64 p2, u64 p3) {
+static u32 code_f49(uint8_t *const m, const u32 last, u64 p0, u64 p1, u64 p2, u64 p3) {
   u32 l4 = 0;
   u64 l5 = 0, l6 = 0;
   u32 i0, i1, i2, i3, i4, i5, i6, i7;
@@ -25157,7 +25436,7 @@ static u32 code_f48(uint8_t *const m, const u32 last, u64 p0, u64 p1, u64 p2, u6
   return 0;
 }
 
-static u32 code_f49(uint8_t *const m, const u32 last, u64 p0, u64 p1, u64 p2, u64 p3, u32 p4, u32 p5, u64 p6, u64 p7) {
+static u32 code_f50(uint8_t *const m, const u32 last, u64 p0, u64 p1, u64 p2, u64 p3, u32 p4, u32 p5, u64 p6, u64 p7) {
   u64 l8 = 0;
   u32 i0, i1, i5;
   u64 j0, j1, j2, j3, j4;
@@ -25197,7 +25476,7 @@ static u32 code_f49(uint8_t *const m, const u32 last, u64 p0, u64 p1, u64 p2, u6
   j3 = p2;
   j4 = p3;
   i5 = p4;
-  call(code_f50(m, last, j0, j1, j2, j3, j4, i5));
+  call(code_f51(m, last, j0, j1, j2, j3, j4, i5));
   i0 = 1u;
   p4 = i0;
   j0 = l8;
@@ -25214,7 +25493,7 @@ static u32 code_f49(uint8_t *const m, const u32 last, u64 p0, u64 p1, u64 p2, u6
   i64_load_at(j1, frame, 40);
   j2 = p6;
   j3 = p7;
-  call(i0 = code_f48(m, last, j0, j1, j2, j3));
+  call(i0 = code_f49(m, last, j0, j1, j2, j3));
   if (i0) {goto B0;}
   B1:;
   j0 = l8;
@@ -25223,7 +25502,7 @@ static u32 code_f49(uint8_t *const m, const u32 last, u64 p0, u64 p1, u64 p2, u6
   j3 = p2;
   j4 = p3;
   i5 = p5;
-  call(code_f50(m, last, j0, j1, j2, j3, j4, i5));
+  call(code_f51(m, last, j0, j1, j2, j3, j4, i5));
   j0 = l8;
   i0 = (u32)(j0);
   i32_load8_u_at(i0, frame, 0);
@@ -25242,7 +25521,7 @@ static u32 code_f49(uint8_t *const m, const u32 last, u64 p0, u64 p1, u64 p2, u6
   i64_load_at(j1, frame, 16);
   j2 = p6;
   j3 = p7;
-  call(i0 = code_f48(m, last, j0, j1, j2, j3));
+  call(i0 = code_f49(m, last, j0, j1, j2, j3));
   p4 = i0;
   B0:;
   j0 = l8;
@@ -25256,7 +25535,7 @@ static u32 code_f49(uint8_t *const m, const u32 last, u64 p0, u64 p1, u64 p2, u6
   return 0;
 }
 
-static void code_f50(uint8_t *const m, const u32 last, u64 p0, u64 p1, u64 p2, u64 p3, u64 p4, u32 p5) {
+static void code_f51(uint8_t *const m, const u32 last, u64 p0, u64 p1, u64 p2, u64 p3, u64 p4, u32 p5) {
   u64 l6 = 0, l7 = 0, l8 = 0, l9 = 0;
   u32 i0, i1, i2;
   u64 j0, j1, j2, j3;
@@ -25958,7 +26237,7 @@ static void code_f50(uint8_t *const m, const u32 last, u64 p0, u64 p1, u64 p2, u
     i1 = 61u;
     j2 = p1;
     j3 = p2;
-    call(code_f46(m, last, j0, i1, j2, j3));
+    call(code_f47(m, last, j0, i1, j2, j3));
     j0 = l6;
     i0 = (u32)(j0);
     i32_load8_u_at(i0, frame, 8);
@@ -25975,7 +26254,7 @@ static void code_f50(uint8_t *const m, const u32 last, u64 p0, u64 p1, u64 p2, u
     i64_load_at(j1, frame, 16);
     j2 = l8;
     j3 = l7;
-    call(i0 = code_f48(m, last, j0, j1, j2, j3));
+    call(i0 = code_f49(m, last, j0, j1, j2, j3));
     if (i0) {goto B32;}
     B34:;
     j0 = p3;
@@ -26053,7 +26332,7 @@ static void code_f50(uint8_t *const m, const u32 last, u64 p0, u64 p1, u64 p2, u
   return;
 }
 
-static void code_f51(uint8_t *const m, const u32 last, u64 p0, u64 p1, u64 p2, u64 p3, u64 p4) {
+static void code_f52(uint8_t *const m, const u32 last, u64 p0, u64 p1, u64 p2, u64 p3, u64 p4) {
   u32 l9 = 0, l10 = 0, l11 = 0;
   u64 l5 = 0, l6 = 0, l7 = 0, l8 = 0;
   u32 i0, i1, i2, i3;
@@ -26321,7 +26600,7 @@ static void code_f51(uint8_t *const m, const u32 last, u64 p0, u64 p1, u64 p2, u
   return;
 }
 
-static u32 code_f52(uint8_t *const m, const u32 last, u64 p0, u64 p1, u64 p2, u64 p3) {
+static u32 code_f53(uint8_t *const m, const u32 last, u64 p0, u64 p1, u64 p2, u64 p3) {
   u32 l8 = 0;
   u64 l4 = 0, l5 = 0, l6 = 0, l7 = 0;
   u32 i0, i1, i2, i3;
@@ -26365,7 +26644,7 @@ static u32 code_f52(uint8_t *const m, const u32 last, u64 p0, u64 p1, u64 p2, u6
     i1 = 61u;
     j2 = l6;
     j3 = l5;
-    call(code_f46(m, last, j0, i1, j2, j3));
+    call(code_f47(m, last, j0, i1, j2, j3));
     j0 = l4;
     i0 = (u32)(j0);
     i32_load8_u_at(i0, frame, 24);
@@ -26382,7 +26661,7 @@ static u32 code_f52(uint8_t *const m, const u32 last, u64 p0, u64 p1, u64 p2, u6
     i64_load_at(j1, frame, 32);
     j2 = p2;
     j3 = p3;
-    call(i0 = code_f48(m, last, j0, j1, j2, j3));
+    call(i0 = code_f49(m, last, j0, j1, j2, j3));
     if (i0) {goto B1;}
     B3:;
     j0 = p0;
@@ -26410,7 +26689,7 @@ static u32 code_f52(uint8_t *const m, const u32 last, u64 p0, u64 p1, u64 p2, u6
   j2 -= j3;
   j3 = 0ull;
   j4 = 4294967295ull;
-  call(code_f51(m, last, j0, j1, j2, j3, j4));
+  call(code_f52(m, last, j0, j1, j2, j3, j4));
   j0 = l4;
   i0 = (u32)(j0);
   i32_load_at(i0, frame, 16);
@@ -26434,7 +26713,7 @@ static u32 code_f52(uint8_t *const m, const u32 last, u64 p0, u64 p1, u64 p2, u6
   return 0;
 }
 
-static void code_f53(uint8_t *const m, const u32 last, u64 p0, u32 p1, u64 p2, u64 p3) {
+static void code_f54(uint8_t *const m, const u32 last, u64 p0, u32 p1, u64 p2, u64 p3) {
   u32 l6 = 0, l7 = 0, l8 = 0, l9 = 0, l10 = 0;
   u64 l4 = 0, l5 = 0;
   u32 i0, i1, i2, i3;
@@ -26679,7 +26958,7 @@ static void code_f53(uint8_t *const m, const u32 last, u64 p0, u32 p1, u64 p2, u
   return;
 }
 
-static void code_f54(uint8_t *const m, const u32 last, u64 p0, u64 p1) {
+static void code_f55(uint8_t *const m, const u32 last, u64 p0, u64 p1) {
   u32 l8 = 0;
   u64 l2 = 0, l3 = 0, l4 = 0, l5 = 0, l6 = 0, l7 = 0;
   u32 i0, i1, i2, i3, i4, i5;
@@ -26767,7 +27046,7 @@ static void code_f54(uint8_t *const m, const u32 last, u64 p0, u64 p1) {
   i4 = (u32)(j4);
   i64_load_at(j4, a1, 16);
   i5 = 0u;
-  call(code_f50(m, last, j0, j1, j2, j3, j4, i5));
+  call(code_f51(m, last, j0, j1, j2, j3, j4, i5));
   j0 = l2;
   j1 = 48ull;
   j0 += j1;
@@ -26780,7 +27059,7 @@ static void code_f54(uint8_t *const m, const u32 last, u64 p0, u64 p1) {
   i4 = (u32)(j4);
   i64_load_at(j4, a1, 16);
   i5 = 1u;
-  call(code_f50(m, last, j0, j1, j2, j3, j4, i5));
+  call(code_f51(m, last, j0, j1, j2, j3, j4, i5));
   j0 = l2;
   j1 = 24ull;
   j0 += j1;
@@ -26793,7 +27072,7 @@ static void code_f54(uint8_t *const m, const u32 last, u64 p0, u64 p1) {
   i4 = (u32)(j4);
   i64_load_at(j4, a1, 16);
   i5 = 2u;
-  call(code_f50(m, last, j0, j1, j2, j3, j4, i5));
+  call(code_f51(m, last, j0, j1, j2, j3, j4, i5));
   j0 = l2;
   i0 = (u32)(j0);
   i64_load_at(j0, frame, 32);
@@ -26816,7 +27095,7 @@ static void code_f54(uint8_t *const m, const u32 last, u64 p0, u64 p1) {
   i4 = (u32)(j4);
   i64_load_at(j4, a1, 16);
   i5 = 3u;
-  call(code_f50(m, last, j0, j1, j2, j3, j4, i5));
+  call(code_f51(m, last, j0, j1, j2, j3, j4, i5));
   j0 = p0;
   i0 = (u32)(j0);
   j1 = l2;
@@ -26899,7 +27178,7 @@ static void code_f54(uint8_t *const m, const u32 last, u64 p0, u64 p1) {
   return;
 }
 
-static void code_f55(uint8_t *const m, const u32 last, u64 p0, u64 p1, u32 p2, u64 p3) {
+static void code_f56(uint8_t *const m, const u32 last, u64 p0, u64 p1, u32 p2, u64 p3) {
   u32 l11 = 0, l12 = 0;
   u64 l4 = 0, l5 = 0, l6 = 0, l7 = 0, l8 = 0, l9 = 0, l10 = 0;
   u32 i0, i1, i2, i3;
@@ -27003,7 +27282,7 @@ static void code_f55(uint8_t *const m, const u32 last, u64 p0, u64 p1, u32 p2, u
   j0 = p1;
   j1 = 192ull;
   j0 += j1;
-  call(i0 = code_f56(m, last, j0));
+  call(i0 = code_f57(m, last, j0));
   i0 = !(i0);
   if (i0) {goto B10;}
   j0 = p1;
@@ -27039,7 +27318,7 @@ static void code_f55(uint8_t *const m, const u32 last, u64 p0, u64 p1, u32 p2, u
   i64_load_at(j2, a3, 8);
   j3 = p3;
   j4 = l6;
-  call(code_f34(m, last, j0, j1, j2, j3, j4));
+  call(code_f35(m, last, j0, j1, j2, j3, j4));
   j0 = l4;
   i0 = (u32)(j0);
   i32_load8_u_at(i0, frame, 24);
@@ -27194,7 +27473,7 @@ static void code_f55(uint8_t *const m, const u32 last, u64 p0, u64 p1, u32 p2, u
     j1 = 72ull;
     j0 += j1;
     j1 = l10;
-    call(i0 = code_f57(m, last, j0, j1));
+    call(i0 = code_f58(m, last, j0, j1));
     l12 = i0;
     j0 = l4;
     i0 = (u32)(j0);
@@ -27256,7 +27535,7 @@ static void code_f55(uint8_t *const m, const u32 last, u64 p0, u64 p1, u32 p2, u
     j4 = l6;
     j5 = p3;
     j4 -= j5;
-    call(code_f58(m, last, j0, j1, i2, j3, j4));
+    call(code_f59(m, last, j0, j1, i2, j3, j4));
     j0 = l4;
     i0 = (u32)(j0);
     i32_load8_u_at(i0, frame, 8);
@@ -27422,7 +27701,7 @@ static void code_f55(uint8_t *const m, const u32 last, u64 p0, u64 p1, u32 p2, u
   return;
 }
 
-static u32 code_f56(uint8_t *const m, const u32 last, u64 p0) {
+static u32 code_f57(uint8_t *const m, const u32 last, u64 p0) {
   u64 l1 = 0, l2 = 0, l3 = 0, l4 = 0, l5 = 0, l6 = 0, l7 = 0;
   u32 i0, i2, i3;
   u64 j0, j1, j2, j3;
@@ -27591,7 +27870,7 @@ static u32 code_f56(uint8_t *const m, const u32 last, u64 p0) {
   return 0;
 }
 
-static u32 code_f57(uint8_t *const m, const u32 last, u64 p0, u64 p1) {
+static u32 code_f58(uint8_t *const m, const u32 last, u64 p0, u64 p1) {
   u32 l6 = 0;
   u64 l2 = 0, l3 = 0, l4 = 0, l5 = 0;
   u32 i0, i1, i2;
@@ -27715,7 +27994,7 @@ static u32 code_f57(uint8_t *const m, const u32 last, u64 p0, u64 p1) {
   return 0;
 }
 
-static void code_f58(uint8_t *const m, const u32 last, u64 p0, u64 p1, u32 p2, u64 p3, u64 p4) {
+static void code_f59(uint8_t *const m, const u32 last, u64 p0, u64 p1, u32 p2, u64 p3, u64 p4) {
   u32 l14 = 0;
   u64 l5 = 0, l6 = 0, l7 = 0, l8 = 0, l9 = 0, l10 = 0, l11 = 0, l12 = 0, l13 = 0;
   u32 i0, i1, i2, i3, i4, i5;
@@ -27724,7 +28003,7 @@ static void code_f58(uint8_t *const m, const u32 last, u64 p0, u64 p1, u32 p2, u
   j0 = p1;
   j1 = 256ull;
   j0 += j1;
-  call(i0 = code_f56(m, last, j0));
+  call(i0 = code_f57(m, last, j0));
   i0 = !(i0);
   if (i0) {goto B1;}
   j0 = p1;
@@ -28024,7 +28303,7 @@ static void code_f58(uint8_t *const m, const u32 last, u64 p0, u64 p1, u32 p2, u
   return;
 }
 
-static void code_f59(uint8_t *const m, const u32 last, u64 p0, u64 p1, u64 p2, u64 p3) {
+static void code_f60(uint8_t *const m, const u32 last, u64 p0, u64 p1, u64 p2, u64 p3) {
   u32 l53 = 0, l54 = 0, l55 = 0, l56 = 0, l57 = 0, l58 = 0, l59 = 0, l60 = 0;
   u64 l4 = 0, l5 = 0, l6 = 0, l7 = 0, l8 = 0, l9 = 0, l10 = 0, l11 = 0, l12 = 0, l13 = 0, l14 = 0, l15 = 0, l16 = 0, l17 = 0, l18 = 0, l19 = 0, l20 = 0, l21 = 0, l22 = 0, l23 = 0, l24 = 0, l25 = 0, l26 = 0, l27 = 0, l28 = 0, l29 = 0, l30 = 0, l31 = 0, l32 = 0, l33 = 0, l34 = 0, l35 = 0, l36 = 0, l37 = 0, l38 = 0, l39 = 0, l40 = 0, l41 = 0, l42 = 0, l43 = 0, l44 = 0, l45 = 0, l46 = 0, l47 = 0, l48 = 0, l49 = 0, l50 = 0, l51 = 0, l52 = 0;
   u32 i0, i1, i2, i3, i4, i5, i6, i7;
@@ -29326,7 +29605,7 @@ static void code_f59(uint8_t *const m, const u32 last, u64 p0, u64 p1, u64 p2, u
   j0 += j1;
   j1 = p2;
   j2 = p1;
-  call(code_f60(m, last, j0, j1, j2));
+  call(code_f61(m, last, j0, j1, j2));
   j0 = l4;
   i0 = (u32)(j0);
   i32_load_at(i0, frame, 7272);
@@ -29368,19 +29647,19 @@ static void code_f59(uint8_t *const m, const u32 last, u64 p0, u64 p1, u64 p2, u
   j1 = l6;
   j2 = 1050733ull;
   j3 = 4ull;
-  call(i0 = code_f52(m, last, j0, j1, j2, j3));
+  call(i0 = code_f53(m, last, j0, j1, j2, j3));
   l53 = i0;
   j0 = l7;
   j1 = l6;
   j2 = 1050737ull;
   j3 = 6ull;
-  call(i0 = code_f52(m, last, j0, j1, j2, j3));
+  call(i0 = code_f53(m, last, j0, j1, j2, j3));
   l55 = i0;
   j0 = l7;
   j1 = l6;
   j2 = 1050743ull;
   j3 = 4ull;
-  call(i0 = code_f52(m, last, j0, j1, j2, j3));
+  call(i0 = code_f53(m, last, j0, j1, j2, j3));
   l56 = i0;
   j0 = l6;
   i0 = !(j0);
@@ -29420,7 +29699,7 @@ static void code_f59(uint8_t *const m, const u32 last, u64 p0, u64 p1, u64 p2, u
     i1 = 61u;
     j2 = p1;
     j3 = p2;
-    call(code_f46(m, last, j0, i1, j2, j3));
+    call(code_f47(m, last, j0, i1, j2, j3));
     j0 = l4;
     i0 = (u32)(j0);
     i32_load8_u_at(i0, frame, 24400);
@@ -29437,7 +29716,7 @@ static void code_f59(uint8_t *const m, const u32 last, u64 p0, u64 p1, u64 p2, u
     i64_load_at(j1, frame, 24408);
     j2 = 1050729ull;
     j3 = 4ull;
-    call(i0 = code_f48(m, last, j0, j1, j2, j3));
+    call(i0 = code_f49(m, last, j0, j1, j2, j3));
     if (i0) {goto B34;}
     B36:;
     j0 = l7;
@@ -29559,7 +29838,7 @@ static void code_f59(uint8_t *const m, const u32 last, u64 p0, u64 p1, u64 p2, u
   i1 = l53;
   j2 = l5;
   j3 = p2;
-  call(code_f53(m, last, j0, i1, j2, j3));
+  call(code_f54(m, last, j0, i1, j2, j3));
   j0 = l4;
   i0 = (u32)(j0);
   i32_load8_u_at(i0, frame, 24400);
@@ -29904,7 +30183,7 @@ static void code_f59(uint8_t *const m, const u32 last, u64 p0, u64 p1, u64 p2, u
   j5 = l4;
   j6 = 6880ull;
   j5 += j6;
-  call(code_f61(m, last, j0, i1, i2, i3, j4, j5));
+  call(code_f62(m, last, j0, i1, i2, i3, j4, j5));
   j0 = l4;
   i0 = (u32)(j0);
   i32_load8_u_at(i0, frame, 7744);
@@ -31259,7 +31538,7 @@ static void code_f59(uint8_t *const m, const u32 last, u64 p0, u64 p1, u64 p2, u
   j0 += j1;
   j1 = p2;
   j2 = p1;
-  call(code_f62(m, last, j0, j1, j2));
+  call(code_f63(m, last, j0, j1, j2));
   j0 = l4;
   i0 = (u32)(j0);
   i32_load_at(i0, frame, 7752);
@@ -31272,7 +31551,7 @@ static void code_f59(uint8_t *const m, const u32 last, u64 p0, u64 p1, u64 p2, u
   j1 = l6;
   j2 = 1050743ull;
   j3 = 4ull;
-  call(i0 = code_f52(m, last, j0, j1, j2, j3));
+  call(i0 = code_f53(m, last, j0, j1, j2, j3));
   l54 = i0;
   j0 = l4;
   i0 = (u32)(j0);
@@ -31303,7 +31582,7 @@ static void code_f59(uint8_t *const m, const u32 last, u64 p0, u64 p1, u64 p2, u
   j2 = l4;
   j3 = 7264ull;
   j2 += j3;
-  call(code_f63(m, last, j0, i1, j2));
+  call(code_f64(m, last, j0, i1, j2));
   j0 = l4;
   i0 = (u32)(j0);
   i32_load8_u_at(i0, frame, 24400);
@@ -31711,13 +31990,13 @@ static void code_f59(uint8_t *const m, const u32 last, u64 p0, u64 p1, u64 p2, u
   j2 = l6;
   j3 = 1050733ull;
   j4 = 4ull;
-  call(i1 = code_f52(m, last, j1, j2, j3, j4));
+  call(i1 = code_f53(m, last, j1, j2, j3, j4));
   j2 = l7;
   j3 = l6;
   j4 = 1050743ull;
   j5 = 4ull;
-  call(i2 = code_f52(m, last, j2, j3, j4, j5));
-  call(code_f64(m, last, j0, i1, i2));
+  call(i2 = code_f53(m, last, j2, j3, j4, j5));
+  call(code_f65(m, last, j0, i1, i2));
   j0 = l4;
   i0 = (u32)(j0);
   j1 = l4;
@@ -32532,7 +32811,7 @@ static void code_f59(uint8_t *const m, const u32 last, u64 p0, u64 p1, u64 p2, u
   j1 = l6;
   j2 = 1050733ull;
   j3 = 4ull;
-  call(i0 = code_f52(m, last, j0, j1, j2, j3));
+  call(i0 = code_f53(m, last, j0, j1, j2, j3));
   l53 = i0;
   i1 = 3u;
   i0 >>= (i1 & 31);
@@ -32548,7 +32827,7 @@ static void code_f59(uint8_t *const m, const u32 last, u64 p0, u64 p1, u64 p2, u
   j1 = l6;
   j2 = 1050743ull;
   j3 = 4ull;
-  call(i0 = code_f52(m, last, j0, j1, j2, j3));
+  call(i0 = code_f53(m, last, j0, j1, j2, j3));
   l54 = i0;
   i0 = l53;
   i0 = !(i0);
@@ -32746,7 +33025,7 @@ static void code_f59(uint8_t *const m, const u32 last, u64 p0, u64 p1, u64 p2, u
   j1 = 24400ull;
   j0 += j1;
   i1 = l53;
-  call(code_f32(m, last, j0, i1));
+  call(code_f33(m, last, j0, i1));
   j0 = l4;
   i0 = (u32)(j0);
   i32_load8_u_at(i0, frame, 24400);
@@ -34109,26 +34388,26 @@ static void code_f59(uint8_t *const m, const u32 last, u64 p0, u64 p1, u64 p2, u
   j2 = l6;
   j3 = 1051173ull;
   j4 = 4ull;
-  call(i1 = code_f52(m, last, j1, j2, j3, j4));
+  call(i1 = code_f53(m, last, j1, j2, j3, j4));
   j2 = l7;
   j3 = l6;
   j4 = 1051177ull;
   j5 = 7ull;
-  call(i2 = code_f52(m, last, j2, j3, j4, j5));
+  call(i2 = code_f53(m, last, j2, j3, j4, j5));
   j3 = l7;
   j4 = l6;
   j5 = 1050733ull;
   j6 = 4ull;
-  call(i3 = code_f52(m, last, j3, j4, j5, j6));
+  call(i3 = code_f53(m, last, j3, j4, j5, j6));
   j4 = l7;
   j5 = l6;
   j6 = 1050737ull;
   j7 = 6ull;
-  call(i4 = code_f52(m, last, j4, j5, j6, j7));
+  call(i4 = code_f53(m, last, j4, j5, j6, j7));
   j5 = l4;
   j6 = 24400ull;
   j5 += j6;
-  call(code_f65(m, last, j0, i1, i2, i3, i4, j5));
+  call(code_f66(m, last, j0, i1, i2, i3, i4, j5));
   j0 = l4;
   i0 = (u32)(j0);
   i64_load_at(j0, frame, 24416);
@@ -34392,7 +34671,7 @@ static void code_f59(uint8_t *const m, const u32 last, u64 p0, u64 p1, u64 p2, u
   j1 = 24400ull;
   j0 += j1;
   j1 = p1;
-  call(code_f66(m, last, j0, j1));
+  call(code_f67(m, last, j0, j1));
   j0 = l4;
   j1 = 24400ull;
   j0 += j1;
@@ -34425,7 +34704,7 @@ static void code_f59(uint8_t *const m, const u32 last, u64 p0, u64 p1, u64 p2, u
   j1 = 7744ull;
   j0 += j1;
   j1 = p1;
-  call(i0 = code_f57(m, last, j0, j1));
+  call(i0 = code_f58(m, last, j0, j1));
   i0 = !(i0);
   if (i0) {goto B95;}
   j0 = l4;
@@ -34501,7 +34780,7 @@ static void code_f59(uint8_t *const m, const u32 last, u64 p0, u64 p1, u64 p2, u
   j1 = 24400ull;
   j0 += j1;
   j1 = p3;
-  call(code_f66(m, last, j0, j1));
+  call(code_f67(m, last, j0, j1));
   j0 = l4;
   j1 = 24400ull;
   j0 += j1;
@@ -34530,7 +34809,7 @@ static void code_f59(uint8_t *const m, const u32 last, u64 p0, u64 p1, u64 p2, u
   j1 = 7744ull;
   j0 += j1;
   j1 = p1;
-  call(i0 = code_f57(m, last, j0, j1));
+  call(i0 = code_f58(m, last, j0, j1));
   i0 = !(i0);
   if (i0) {goto B94;}
   j0 = l4;
@@ -34607,7 +34886,7 @@ static void code_f59(uint8_t *const m, const u32 last, u64 p0, u64 p1, u64 p2, u
   j1 = 24400ull;
   j0 += j1;
   j1 = l5;
-  call(code_f66(m, last, j0, j1));
+  call(code_f67(m, last, j0, j1));
   j0 = l4;
   j1 = 24400ull;
   j0 += j1;
@@ -34636,7 +34915,7 @@ static void code_f59(uint8_t *const m, const u32 last, u64 p0, u64 p1, u64 p2, u
   j1 = 7744ull;
   j0 += j1;
   j1 = p1;
-  call(i0 = code_f57(m, last, j0, j1));
+  call(i0 = code_f58(m, last, j0, j1));
   i0 = !(i0);
   if (i0) {goto B93;}
   j0 = l4;
@@ -34713,7 +34992,7 @@ static void code_f59(uint8_t *const m, const u32 last, u64 p0, u64 p1, u64 p2, u
   j1 = 24400ull;
   j0 += j1;
   j1 = l8;
-  call(code_f66(m, last, j0, j1));
+  call(code_f67(m, last, j0, j1));
   j0 = l4;
   j1 = 24400ull;
   j0 += j1;
@@ -34742,7 +35021,7 @@ static void code_f59(uint8_t *const m, const u32 last, u64 p0, u64 p1, u64 p2, u
   j1 = 7744ull;
   j0 += j1;
   j1 = p1;
-  call(i0 = code_f57(m, last, j0, j1));
+  call(i0 = code_f58(m, last, j0, j1));
   i0 = !(i0);
   if (i0) {goto B92;}
   j0 = l4;
@@ -34819,7 +35098,7 @@ static void code_f59(uint8_t *const m, const u32 last, u64 p0, u64 p1, u64 p2, u
   j1 = 24400ull;
   j0 += j1;
   j1 = l9;
-  call(code_f66(m, last, j0, j1));
+  call(code_f67(m, last, j0, j1));
   j0 = l4;
   j1 = 24400ull;
   j0 += j1;
@@ -34848,7 +35127,7 @@ static void code_f59(uint8_t *const m, const u32 last, u64 p0, u64 p1, u64 p2, u
   j1 = 7744ull;
   j0 += j1;
   j1 = p1;
-  call(i0 = code_f57(m, last, j0, j1));
+  call(i0 = code_f58(m, last, j0, j1));
   i0 = !(i0);
   if (i0) {goto B91;}
   j0 = l4;
@@ -34925,7 +35204,7 @@ static void code_f59(uint8_t *const m, const u32 last, u64 p0, u64 p1, u64 p2, u
   j1 = 24400ull;
   j0 += j1;
   j1 = l10;
-  call(code_f66(m, last, j0, j1));
+  call(code_f67(m, last, j0, j1));
   j0 = l4;
   j1 = 24400ull;
   j0 += j1;
@@ -34954,7 +35233,7 @@ static void code_f59(uint8_t *const m, const u32 last, u64 p0, u64 p1, u64 p2, u
   j1 = 7744ull;
   j0 += j1;
   j1 = p1;
-  call(i0 = code_f57(m, last, j0, j1));
+  call(i0 = code_f58(m, last, j0, j1));
   i0 = !(i0);
   if (i0) {goto B90;}
   j0 = l4;
@@ -35031,7 +35310,7 @@ static void code_f59(uint8_t *const m, const u32 last, u64 p0, u64 p1, u64 p2, u
   j1 = 24400ull;
   j0 += j1;
   j1 = l13;
-  call(code_f66(m, last, j0, j1));
+  call(code_f67(m, last, j0, j1));
   j0 = l4;
   j1 = 24400ull;
   j0 += j1;
@@ -35060,7 +35339,7 @@ static void code_f59(uint8_t *const m, const u32 last, u64 p0, u64 p1, u64 p2, u
   j1 = 7744ull;
   j0 += j1;
   j1 = p1;
-  call(i0 = code_f57(m, last, j0, j1));
+  call(i0 = code_f58(m, last, j0, j1));
   i0 = !(i0);
   if (i0) {goto B89;}
   j0 = l4;
@@ -35468,7 +35747,7 @@ static void code_f59(uint8_t *const m, const u32 last, u64 p0, u64 p1, u64 p2, u
   j1 += j2;
   j2 = p1;
   j3 = l7;
-  call(code_f67(m, last, j0, j1, j2, j3));
+  call(code_f68(m, last, j0, j1, j2, j3));
   j0 = 0ull;
   p1 = j0;
   j0 = l4;
@@ -35550,7 +35829,7 @@ static void code_f59(uint8_t *const m, const u32 last, u64 p0, u64 p1, u64 p2, u
   j1 = l4;
   j2 = 24400ull;
   j1 += j2;
-  call(code_f68(m, last, j0, j1));
+  call(code_f69(m, last, j0, j1));
   j0 = l4;
   i0 = (u32)(j0);
   i32_load8_u_at(i0, frame, 7264);
@@ -35625,7 +35904,7 @@ static void code_f59(uint8_t *const m, const u32 last, u64 p0, u64 p1, u64 p2, u
     i64_load_at(j2, a19, 0);
     j3 = 0ull;
     j4 = 2046ull;
-    call(code_f51(m, last, j0, j1, j2, j3, j4));
+    call(code_f52(m, last, j0, j1, j2, j3, j4));
     j0 = l4;
     i0 = (u32)(j0);
     i32_load8_u_at(i0, frame, 168);
@@ -35654,7 +35933,7 @@ static void code_f59(uint8_t *const m, const u32 last, u64 p0, u64 p1, u64 p2, u
     j2 -= j3;
     j3 = 1ull;
     j4 = 49152ull;
-    call(code_f51(m, last, j0, j1, j2, j3, j4));
+    call(code_f52(m, last, j0, j1, j2, j3, j4));
     j0 = l4;
     i0 = (u32)(j0);
     i32_load8_u_at(i0, frame, 152);
@@ -35965,7 +36244,7 @@ static void code_f59(uint8_t *const m, const u32 last, u64 p0, u64 p1, u64 p2, u
     j0 = l4;
     j1 = 6880ull;
     j0 += j1;
-    call(i0 = code_f69(m, last, j0));
+    call(i0 = code_f70(m, last, j0));
     i0 = !(i0);
     if (i0) {goto B116;}
     j0 = l4;
@@ -36016,7 +36295,7 @@ static void code_f59(uint8_t *const m, const u32 last, u64 p0, u64 p1, u64 p2, u
     j1 = l4;
     j2 = 24400ull;
     j1 += j2;
-    call(code_f68(m, last, j0, j1));
+    call(code_f69(m, last, j0, j1));
     j0 = l4;
     i0 = (u32)(j0);
     i32_load8_u_at(i0, frame, 7264);
@@ -36462,7 +36741,7 @@ static void code_f59(uint8_t *const m, const u32 last, u64 p0, u64 p1, u64 p2, u
     j1 = l5;
     i1 = (u32)(j1);
     i32_load(i1, i1, 0);
-    call(code_f32(m, last, j0, i1));
+    call(code_f33(m, last, j0, i1));
     j0 = l4;
     i0 = (u32)(j0);
     i32_load8_u_at(i0, frame, 24400);
@@ -36562,7 +36841,7 @@ static void code_f59(uint8_t *const m, const u32 last, u64 p0, u64 p1, u64 p2, u
   j0 = l4;
   j1 = 7744ull;
   j0 += j1;
-  call(code_f70(m, last, j0));
+  call(code_f71(m, last, j0));
   B111:;
   j0 = l9;
   call(heap_dealloc(m, last, j0));
@@ -36656,19 +36935,19 @@ static void code_f59(uint8_t *const m, const u32 last, u64 p0, u64 p1, u64 p2, u
   j1 = l6;
   j2 = 1050733ull;
   j3 = 4ull;
-  call(i0 = code_f52(m, last, j0, j1, j2, j3));
+  call(i0 = code_f53(m, last, j0, j1, j2, j3));
   l53 = i0;
   j0 = l7;
   j1 = l6;
   j2 = 1050743ull;
   j3 = 4ull;
-  call(i0 = code_f52(m, last, j0, j1, j2, j3));
+  call(i0 = code_f53(m, last, j0, j1, j2, j3));
   l55 = i0;
   j0 = l7;
   j1 = l6;
   j2 = 1051545ull;
   j3 = 6ull;
-  call(i0 = code_f52(m, last, j0, j1, j2, j3));
+  call(i0 = code_f53(m, last, j0, j1, j2, j3));
   l54 = i0;
   j0 = l4;
   i0 = (u32)(j0);
@@ -37061,7 +37340,7 @@ static void code_f59(uint8_t *const m, const u32 last, u64 p0, u64 p1, u64 p2, u
   j1 = 24400ull;
   j0 += j1;
   i1 = l53;
-  call(code_f32(m, last, j0, i1));
+  call(code_f33(m, last, j0, i1));
   j0 = l4;
   i0 = (u32)(j0);
   i32_load8_u_at(i0, frame, 24400);
@@ -37096,7 +37375,7 @@ static void code_f59(uint8_t *const m, const u32 last, u64 p0, u64 p1, u64 p2, u
   j0 = l4;
   j1 = 6880ull;
   j0 += j1;
-  call(code_f71(m, last, j0));
+  call(code_f72(m, last, j0));
   goto B166;
   B170:;
   j0 = l4;
@@ -37122,7 +37401,7 @@ static void code_f59(uint8_t *const m, const u32 last, u64 p0, u64 p1, u64 p2, u
   j0 = l4;
   j1 = 24400ull;
   j0 += j1;
-  call(code_f71(m, last, j0));
+  call(code_f72(m, last, j0));
   B169:;
   i0 = l53;
   i0 = !(i0);
@@ -38990,7 +39269,7 @@ static void code_f59(uint8_t *const m, const u32 last, u64 p0, u64 p1, u64 p2, u
   j1 = l6;
   j2 = 1050733ull;
   j3 = 4ull;
-  call(i0 = code_f52(m, last, j0, j1, j2, j3));
+  call(i0 = code_f53(m, last, j0, j1, j2, j3));
   l59 = i0;
   j0 = p2;
   j1 = 8ull;
@@ -39063,7 +39342,7 @@ static void code_f59(uint8_t *const m, const u32 last, u64 p0, u64 p1, u64 p2, u
   j1 += j2;
   j2 = p1;
   j3 = l7;
-  call(code_f67(m, last, j0, j1, j2, j3));
+  call(code_f68(m, last, j0, j1, j2, j3));
   j0 = 0ull;
   l6 = j0;
   j0 = l4;
@@ -39145,7 +39424,7 @@ static void code_f59(uint8_t *const m, const u32 last, u64 p0, u64 p1, u64 p2, u
   j1 = l4;
   j2 = 24400ull;
   j1 += j2;
-  call(code_f68(m, last, j0, j1));
+  call(code_f69(m, last, j0, j1));
   j0 = l4;
   i0 = (u32)(j0);
   i32_load8_u_at(i0, frame, 7264);
@@ -39444,7 +39723,7 @@ static void code_f59(uint8_t *const m, const u32 last, u64 p0, u64 p1, u64 p2, u
     j2 -= j3;
     j3 = 0ull;
     j4 = l14;
-    call(code_f51(m, last, j0, j1, j2, j3, j4));
+    call(code_f52(m, last, j0, j1, j2, j3, j4));
     j0 = l4;
     i0 = (u32)(j0);
     i32_load8_u_at(i0, frame, 328);
@@ -39490,7 +39769,7 @@ static void code_f59(uint8_t *const m, const u32 last, u64 p0, u64 p1, u64 p2, u
     i6 = i6 < i7;
     i4 = i6 ? i4 : i5;
     j4 = (u64)(i4);
-    call(code_f51(m, last, j0, j1, j2, j3, j4));
+    call(code_f52(m, last, j0, j1, j2, j3, j4));
     j0 = l4;
     i0 = (u32)(j0);
     i32_load8_u_at(i0, frame, 312);
@@ -39720,7 +39999,7 @@ static void code_f59(uint8_t *const m, const u32 last, u64 p0, u64 p1, u64 p2, u
       j1 = l4;
       j2 = 6504ull;
       j1 += j2;
-      call(i0 = code_f72(m, last, j0, j1));
+      call(i0 = code_f73(m, last, j0, j1));
       if (i0) {goto B188;}
       B202:;
       j0 = l7;
@@ -40038,7 +40317,7 @@ static void code_f59(uint8_t *const m, const u32 last, u64 p0, u64 p1, u64 p2, u
     j2 += j3;
     j3 = 1ull;
     j4 = 9223372036854775808ull;
-    call(code_f51(m, last, j0, j1, j2, j3, j4));
+    call(code_f52(m, last, j0, j1, j2, j3, j4));
     j0 = l4;
     i0 = (u32)(j0);
     i32_load8_u_at(i0, frame, 392);
@@ -40070,7 +40349,7 @@ static void code_f59(uint8_t *const m, const u32 last, u64 p0, u64 p1, u64 p2, u
     j2 = l36;
     j3 = 0ull;
     j4 = 18446744073709551615ull;
-    call(code_f51(m, last, j0, j1, j2, j3, j4));
+    call(code_f52(m, last, j0, j1, j2, j3, j4));
     j0 = l4;
     i0 = (u32)(j0);
     i32_load8_u_at(i0, frame, 376);
@@ -40121,7 +40400,7 @@ static void code_f59(uint8_t *const m, const u32 last, u64 p0, u64 p1, u64 p2, u
     j2 += j3;
     j3 = 1ull;
     j4 = 9223372036854775808ull;
-    call(code_f51(m, last, j0, j1, j2, j3, j4));
+    call(code_f52(m, last, j0, j1, j2, j3, j4));
     j0 = l4;
     i0 = (u32)(j0);
     i32_load8_u_at(i0, frame, 360);
@@ -40153,7 +40432,7 @@ static void code_f59(uint8_t *const m, const u32 last, u64 p0, u64 p1, u64 p2, u
     j2 = l15;
     j3 = 0ull;
     j4 = 18446744073709551615ull;
-    call(code_f51(m, last, j0, j1, j2, j3, j4));
+    call(code_f52(m, last, j0, j1, j2, j3, j4));
     j0 = l4;
     i0 = (u32)(j0);
     i32_load8_u_at(i0, frame, 344);
@@ -40183,7 +40462,7 @@ static void code_f59(uint8_t *const m, const u32 last, u64 p0, u64 p1, u64 p2, u
       j1 = l4;
       j2 = 6504ull;
       j1 += j2;
-      call(i0 = code_f72(m, last, j0, j1));
+      call(i0 = code_f73(m, last, j0, j1));
       i0 = !(i0);
       if (i0) {goto B212;}
       j0 = l10;
@@ -40202,7 +40481,7 @@ static void code_f59(uint8_t *const m, const u32 last, u64 p0, u64 p1, u64 p2, u
         j1 = l4;
         j2 = 6504ull;
         j1 += j2;
-        call(i0 = code_f72(m, last, j0, j1));
+        call(i0 = code_f73(m, last, j0, j1));
         if (i0) {goto B188;}
         B214:;
         j0 = l7;
@@ -40627,7 +40906,7 @@ static void code_f59(uint8_t *const m, const u32 last, u64 p0, u64 p1, u64 p2, u
     j0 = l4;
     j1 = 7232ull;
     j0 += j1;
-    call(i0 = code_f73(m, last, j0));
+    call(i0 = code_f74(m, last, j0));
     i0 = !(i0);
     if (i0) {goto B233;}
     j0 = l4;
@@ -40880,7 +41159,7 @@ static void code_f59(uint8_t *const m, const u32 last, u64 p0, u64 p1, u64 p2, u
     j1 = l4;
     j2 = 24400ull;
     j1 += j2;
-    call(code_f68(m, last, j0, j1));
+    call(code_f69(m, last, j0, j1));
     j0 = l4;
     i0 = (u32)(j0);
     i32_load8_u_at(i0, frame, 7264);
@@ -41093,7 +41372,7 @@ static void code_f59(uint8_t *const m, const u32 last, u64 p0, u64 p1, u64 p2, u
     j0 = l4;
     j1 = 7744ull;
     j0 += j1;
-    call(i0 = code_f74(m, last, j0));
+    call(i0 = code_f75(m, last, j0));
     i0 = !(i0);
     if (i0) {goto B252;}
     j0 = l4;
@@ -41182,7 +41461,7 @@ static void code_f59(uint8_t *const m, const u32 last, u64 p0, u64 p1, u64 p2, u
     j0 = l4;
     j1 = 7768ull;
     j0 += j1;
-    call(i0 = code_f75(m, last, j0));
+    call(i0 = code_f76(m, last, j0));
     i0 = !(i0);
     if (i0) {goto B252;}
     j0 = l4;
@@ -41458,7 +41737,7 @@ static void code_f59(uint8_t *const m, const u32 last, u64 p0, u64 p1, u64 p2, u
     j0 = l4;
     j1 = 6504ull;
     j0 += j1;
-    call(i0 = code_f76(m, last, j0));
+    call(i0 = code_f77(m, last, j0));
     i0 = !(i0);
     if (i0) {goto B262;}
     j0 = l4;
@@ -41993,7 +42272,7 @@ static void code_f59(uint8_t *const m, const u32 last, u64 p0, u64 p1, u64 p2, u
     j0 = l4;
     j1 = 6504ull;
     j0 += j1;
-    call(i0 = code_f76(m, last, j0));
+    call(i0 = code_f77(m, last, j0));
     i0 = !(i0);
     if (i0) {goto B262;}
     j0 = l4;
@@ -42154,7 +42433,7 @@ static void code_f59(uint8_t *const m, const u32 last, u64 p0, u64 p1, u64 p2, u
   j1 = 760ull;
   j0 += j1;
   j1 = p1;
-  call(code_f54(m, last, j0, j1));
+  call(code_f55(m, last, j0, j1));
   j0 = p2;
   j1 = 8ull;
   j0 += j1;
@@ -42255,7 +42534,7 @@ static void code_f59(uint8_t *const m, const u32 last, u64 p0, u64 p1, u64 p2, u
   j0 += j1;
   j1 = p2;
   j2 = p1;
-  call(code_f60(m, last, j0, j1, j2));
+  call(code_f61(m, last, j0, j1, j2));
   j0 = l4;
   i0 = (u32)(j0);
   i32_load_at(i0, frame, 6888);
@@ -42344,7 +42623,7 @@ static void code_f59(uint8_t *const m, const u32 last, u64 p0, u64 p1, u64 p2, u
   j3 = l4;
   j4 = 7264ull;
   j3 += j4;
-  call(code_f55(m, last, j0, j1, i2, j3));
+  call(code_f56(m, last, j0, j1, i2, j3));
   j0 = l8;
   j1 = 32ull;
   j0 <<= (j1 & 63);
@@ -42384,7 +42663,7 @@ static void code_f59(uint8_t *const m, const u32 last, u64 p0, u64 p1, u64 p2, u
   j2 = l4;
   i2 = (u32)(j2);
   i64_load_at(j2, frame, 24416);
-  call(code_f62(m, last, j0, j1, j2));
+  call(code_f63(m, last, j0, j1, j2));
   j0 = l4;
   i0 = (u32)(j0);
   i32_load8_u_at(i0, frame, 7744);
@@ -42427,13 +42706,13 @@ static void code_f59(uint8_t *const m, const u32 last, u64 p0, u64 p1, u64 p2, u
   j1 = l6;
   j2 = 1051177ull;
   j3 = 7ull;
-  call(i0 = code_f52(m, last, j0, j1, j2, j3));
+  call(i0 = code_f53(m, last, j0, j1, j2, j3));
   l54 = i0;
   j0 = l7;
   j1 = l6;
   j2 = 1050737ull;
   j3 = 6ull;
-  call(i0 = code_f52(m, last, j0, j1, j2, j3));
+  call(i0 = code_f53(m, last, j0, j1, j2, j3));
   l53 = i0;
   j0 = l4;
   i0 = (u32)(j0);
@@ -42555,7 +42834,7 @@ static void code_f59(uint8_t *const m, const u32 last, u64 p0, u64 p1, u64 p2, u
   j1 = l4;
   j2 = 7616ull;
   j1 += j2;
-  call(code_f77(m, last, j0, j1));
+  call(code_f78(m, last, j0, j1));
   j0 = l4;
   i0 = (u32)(j0);
   i32_load8_u_at(i0, frame, 24400);
@@ -42722,7 +43001,7 @@ static void code_f59(uint8_t *const m, const u32 last, u64 p0, u64 p1, u64 p2, u
   j1 = l4;
   j2 = 7704ull;
   j1 += j2;
-  call(code_f78(m, last, j0, j1));
+  call(code_f79(m, last, j0, j1));
   j0 = l4;
   i0 = (u32)(j0);
   i32_load8_u_at(i0, frame, 7744);
@@ -43749,7 +44028,7 @@ static void code_f59(uint8_t *const m, const u32 last, u64 p0, u64 p1, u64 p2, u
   j0 = l4;
   j1 = 7264ull;
   j0 += j1;
-  call(code_f70(m, last, j0));
+  call(code_f71(m, last, j0));
   j0 = l9;
   call(heap_dealloc(m, last, j0));
   j0 = l6;
@@ -44418,7 +44697,7 @@ static void code_f59(uint8_t *const m, const u32 last, u64 p0, u64 p1, u64 p2, u
   return;
 }
 
-static void code_f60(uint8_t *const m, const u32 last, u64 p0, u64 p1, u64 p2) {
+static void code_f61(uint8_t *const m, const u32 last, u64 p0, u64 p1, u64 p2) {
   u32 l20 = 0, l21 = 0, l22 = 0;
   u64 l3 = 0, l4 = 0, l5 = 0, l6 = 0, l7 = 0, l8 = 0, l9 = 0, l10 = 0, l11 = 0, l12 = 0, l13 = 0, l14 = 0, l15 = 0, l16 = 0, l17 = 0, l18 = 0, l19 = 0;
   u32 i0, i1, i2, i3;
@@ -44505,7 +44784,7 @@ static void code_f60(uint8_t *const m, const u32 last, u64 p0, u64 p1, u64 p2) {
   j1 += j2;
   j2 = p1;
   j3 = p2;
-  call(code_f67(m, last, j0, j1, j2, j3));
+  call(code_f68(m, last, j0, j1, j2, j3));
   j0 = l3;
   i0 = (u32)(j0);
   j1 = 0ull;
@@ -44585,7 +44864,7 @@ static void code_f60(uint8_t *const m, const u32 last, u64 p0, u64 p1, u64 p2) {
   j1 = l3;
   j2 = 16920ull;
   j1 += j2;
-  call(code_f68(m, last, j0, j1));
+  call(code_f69(m, last, j0, j1));
   j0 = l3;
   i0 = (u32)(j0);
   i32_load8_u_at(i0, frame, 56);
@@ -44790,7 +45069,7 @@ static void code_f60(uint8_t *const m, const u32 last, u64 p0, u64 p1, u64 p2) {
     j1 = l3;
     j2 = 16840ull;
     j1 += j2;
-    call(code_f79(m, last, j0, j1));
+    call(code_f80(m, last, j0, j1));
     j0 = l3;
     i0 = (u32)(j0);
     i32_load8_u_at(i0, frame, 33688);
@@ -44822,7 +45101,7 @@ static void code_f60(uint8_t *const m, const u32 last, u64 p0, u64 p1, u64 p2) {
     j2 = 16840ull;
     j1 += j2;
     j2 = 0ull;
-    call(code_f80(m, last, j0, j1, j2));
+    call(code_f81(m, last, j0, j1, j2));
     j0 = l3;
     i0 = (u32)(j0);
     i32_load8_u_at(i0, frame, 33712);
@@ -45267,7 +45546,7 @@ static void code_f60(uint8_t *const m, const u32 last, u64 p0, u64 p1, u64 p2) {
     j0 = l3;
     j1 = 33664ull;
     j0 += j1;
-    call(i0 = code_f81(m, last, j0));
+    call(i0 = code_f82(m, last, j0));
     i0 = !(i0);
     if (i0) {goto B6;}
     j0 = l3;
@@ -45336,7 +45615,7 @@ static void code_f60(uint8_t *const m, const u32 last, u64 p0, u64 p1, u64 p2) {
     j1 = l3;
     j2 = 16920ull;
     j1 += j2;
-    call(code_f68(m, last, j0, j1));
+    call(code_f69(m, last, j0, j1));
     j0 = l3;
     i0 = (u32)(j0);
     i32_load8_u_at(i0, frame, 56);
@@ -45788,7 +46067,7 @@ static void code_f60(uint8_t *const m, const u32 last, u64 p0, u64 p1, u64 p2) {
     j1 = 184ull;
     j0 += j1;
     j1 = 1ull;
-    call(i0 = code_f82(m, last, j0, j1));
+    call(i0 = code_f83(m, last, j0, j1));
     i0 = !(i0);
     if (i0) {goto B63;}
     j0 = l3;
@@ -45873,7 +46152,7 @@ static void code_f60(uint8_t *const m, const u32 last, u64 p0, u64 p1, u64 p2) {
     j1 = 56ull;
     j0 += j1;
     j1 = 1ull;
-    call(i0 = code_f83(m, last, j0, j1));
+    call(i0 = code_f84(m, last, j0, j1));
     i0 = !(i0);
     if (i0) {goto B3;}
     j0 = l3;
@@ -46184,7 +46463,7 @@ static void code_f60(uint8_t *const m, const u32 last, u64 p0, u64 p1, u64 p2) {
   return;
 }
 
-static void code_f61(uint8_t *const m, const u32 last, u64 p0, u32 p1, u32 p2, u32 p3, u64 p4, u64 p5) {
+static void code_f62(uint8_t *const m, const u32 last, u64 p0, u32 p1, u32 p2, u32 p3, u64 p4, u64 p5) {
   u32 l67 = 0, l68 = 0, l69 = 0, l70 = 0, l71 = 0;
   u64 l6 = 0, l7 = 0, l8 = 0, l9 = 0, l10 = 0, l11 = 0, l12 = 0, l13 = 0, l14 = 0, l15 = 0, l16 = 0, l17 = 0, l18 = 0, l19 = 0, l20 = 0, l21 = 0, l22 = 0, l23 = 0, l24 = 0, l25 = 0, l26 = 0, l27 = 0, l28 = 0, l29 = 0, l30 = 0, l31 = 0, l32 = 0, l33 = 0, l34 = 0, l35 = 0, l36 = 0, l37 = 0, l38 = 0, l39 = 0, l40 = 0, l41 = 0, l42 = 0, l43 = 0, l44 = 0, l45 = 0, l46 = 0, l47 = 0, l48 = 0, l49 = 0, l50 = 0, l51 = 0, l52 = 0, l53 = 0, l54 = 0, l55 = 0, l56 = 0, l57 = 0, l58 = 0, l59 = 0, l60 = 0, l61 = 0, l62 = 0, l63 = 0, l64 = 0, l65 = 0, l66 = 0;
   u32 i0, i1, i2, i3, i6;
@@ -46678,7 +46957,7 @@ static void code_f61(uint8_t *const m, const u32 last, u64 p0, u32 p1, u32 p2, u
   j1 = l6;
   j2 = 568ull;
   j1 += j2;
-  call(code_f77(m, last, j0, j1));
+  call(code_f78(m, last, j0, j1));
   j0 = l6;
   i0 = (u32)(j0);
   i32_load8_u_at(i0, frame, 616);
@@ -47387,7 +47666,7 @@ static void code_f61(uint8_t *const m, const u32 last, u64 p0, u32 p1, u32 p2, u
   j0 = l6;
   j1 = 944ull;
   j0 += j1;
-  call(code_f44(m, last, j0));
+  call(code_f45(m, last, j0));
   goto B39;
   B41:;
   j0 = 0ull;
@@ -47558,7 +47837,7 @@ static void code_f61(uint8_t *const m, const u32 last, u64 p0, u32 p1, u32 p2, u
   j0 = l6;
   j1 = 976ull;
   j0 += j1;
-  call(code_f44(m, last, j0));
+  call(code_f45(m, last, j0));
   goto B39;
   B52:;
   j0 = l6;
@@ -47608,7 +47887,7 @@ static void code_f61(uint8_t *const m, const u32 last, u64 p0, u32 p1, u32 p2, u
   j0 = l6;
   j1 = 912ull;
   j0 += j1;
-  call(code_f44(m, last, j0));
+  call(code_f45(m, last, j0));
   j0 = l59;
   call(heap_dealloc(m, last, j0));
   B39:;
@@ -47685,7 +47964,7 @@ static void code_f61(uint8_t *const m, const u32 last, u64 p0, u32 p1, u32 p2, u
     j1 = 976ull;
     j0 += j1;
     j1 = 0ull;
-    call(code_f25(m, last, j0, j1));
+    call(code_f26(m, last, j0, j1));
     j0 = l10;
     i0 = (u32)(j0);
     j1 = l6;
@@ -49490,7 +49769,7 @@ static void code_f61(uint8_t *const m, const u32 last, u64 p0, u32 p1, u32 p2, u
   return;
 }
 
-static void code_f62(uint8_t *const m, const u32 last, u64 p0, u64 p1, u64 p2) {
+static void code_f63(uint8_t *const m, const u32 last, u64 p0, u64 p1, u64 p2) {
   u32 l14 = 0, l15 = 0, l16 = 0;
   u64 l3 = 0, l4 = 0, l5 = 0, l6 = 0, l7 = 0, l8 = 0, l9 = 0, l10 = 0, l11 = 0, l12 = 0, l13 = 0;
   u32 i0, i1, i2;
@@ -49563,7 +49842,7 @@ static void code_f62(uint8_t *const m, const u32 last, u64 p0, u64 p1, u64 p2) {
   j1 += j2;
   j2 = p1;
   j3 = p2;
-  call(code_f67(m, last, j0, j1, j2, j3));
+  call(code_f68(m, last, j0, j1, j2, j3));
   j0 = l3;
   i0 = (u32)(j0);
   j1 = 0ull;
@@ -49643,7 +49922,7 @@ static void code_f62(uint8_t *const m, const u32 last, u64 p0, u64 p1, u64 p2) {
   j1 = l3;
   j2 = 16912ull;
   j1 += j2;
-  call(code_f68(m, last, j0, j1));
+  call(code_f69(m, last, j0, j1));
   j0 = l3;
   i0 = (u32)(j0);
   i32_load8_u_at(i0, frame, 48);
@@ -49854,7 +50133,7 @@ static void code_f62(uint8_t *const m, const u32 last, u64 p0, u64 p1, u64 p2) {
     j2 = 16832ull;
     j1 += j2;
     j2 = 1ull;
-    call(code_f80(m, last, j0, j1, j2));
+    call(code_f81(m, last, j0, j1, j2));
     j0 = l3;
     i0 = (u32)(j0);
     i32_load8_u_at(i0, frame, 33680);
@@ -49943,7 +50222,7 @@ static void code_f62(uint8_t *const m, const u32 last, u64 p0, u64 p1, u64 p2) {
     j2 = 16832ull;
     j1 += j2;
     j2 = 1ull;
-    call(code_f80(m, last, j0, j1, j2));
+    call(code_f81(m, last, j0, j1, j2));
     j0 = l3;
     i0 = (u32)(j0);
     i32_load8_u_at(i0, frame, 33680);
@@ -49977,7 +50256,7 @@ static void code_f62(uint8_t *const m, const u32 last, u64 p0, u64 p1, u64 p2) {
     j2 -= j3;
     j3 = 1ull;
     j4 = 8ull;
-    call(code_f51(m, last, j0, j1, j2, j3, j4));
+    call(code_f52(m, last, j0, j1, j2, j3, j4));
     i0 = 1u;
     l15 = i0;
     j0 = l3;
@@ -50282,7 +50561,7 @@ static void code_f62(uint8_t *const m, const u32 last, u64 p0, u64 p1, u64 p2) {
     j1 = 33656ull;
     j0 += j1;
     j1 = 1ull;
-    call(i0 = code_f111(m, last, j0, j1));
+    call(i0 = code_f112(m, last, j0, j1));
     i0 = !(i0);
     if (i0) {goto B34;}
     j0 = l3;
@@ -50460,7 +50739,7 @@ static void code_f62(uint8_t *const m, const u32 last, u64 p0, u64 p1, u64 p2) {
     j1 = l3;
     j2 = 16912ull;
     j1 += j2;
-    call(code_f68(m, last, j0, j1));
+    call(code_f69(m, last, j0, j1));
     j0 = l3;
     i0 = (u32)(j0);
     i32_load8_u_at(i0, frame, 48);
@@ -50658,7 +50937,7 @@ static void code_f62(uint8_t *const m, const u32 last, u64 p0, u64 p1, u64 p2) {
   return;
 }
 
-static void code_f63(uint8_t *const m, const u32 last, u64 p0, u32 p1, u64 p2) {
+static void code_f64(uint8_t *const m, const u32 last, u64 p0, u32 p1, u64 p2) {
   u32 l11 = 0;
   u64 l3 = 0, l4 = 0, l5 = 0, l6 = 0, l7 = 0, l8 = 0, l9 = 0, l10 = 0;
   u32 i0, i1, i2;
@@ -50873,7 +51152,7 @@ static void code_f63(uint8_t *const m, const u32 last, u64 p0, u32 p1, u64 p2) {
   j1 = l3;
   j2 = 504ull;
   j1 += j2;
-  call(code_f78(m, last, j0, j1));
+  call(code_f79(m, last, j0, j1));
   j0 = l3;
   i0 = (u32)(j0);
   i32_load8_u_at(i0, frame, 408);
@@ -51731,7 +52010,7 @@ static void code_f63(uint8_t *const m, const u32 last, u64 p0, u32 p1, u64 p2) {
   return;
 }
 
-static void code_f64(uint8_t *const m, const u32 last, u64 p0, u32 p1, u32 p2) {
+static void code_f65(uint8_t *const m, const u32 last, u64 p0, u32 p1, u32 p2) {
   u64 l3 = 0, l4 = 0, l5 = 0, l6 = 0, l7 = 0, l8 = 0, l9 = 0, l10 = 0, l11 = 0;
   u32 i0, i1, i2;
   u64 j0, j1, j2;
@@ -51869,7 +52148,7 @@ static void code_f64(uint8_t *const m, const u32 last, u64 p0, u32 p1, u32 p2) {
   j1 = 1168ull;
   j0 += j1;
   i1 = p1;
-  call(code_f32(m, last, j0, i1));
+  call(code_f33(m, last, j0, i1));
   j0 = l3;
   i0 = (u32)(j0);
   i32_load8_u_at(i0, frame, 1168);
@@ -52316,7 +52595,7 @@ static void code_f64(uint8_t *const m, const u32 last, u64 p0, u32 p1, u32 p2) {
   return;
 }
 
-static void code_f65(uint8_t *const m, const u32 last, u64 p0, u32 p1, u32 p2, u32 p3, u32 p4, u64 p5) {
+static void code_f66(uint8_t *const m, const u32 last, u64 p0, u32 p1, u32 p2, u32 p3, u32 p4, u64 p5) {
   u32 l215 = 0, l216 = 0, l217 = 0, l218 = 0, l219 = 0, l220 = 0;
   u64 l6 = 0, l7 = 0, l8 = 0, l9 = 0, l10 = 0, l11 = 0, l12 = 0, l13 = 0, l14 = 0, l15 = 0, l16 = 0, l17 = 0, l18 = 0, l19 = 0, l20 = 0, l21 = 0, l22 = 0, l23 = 0, l24 = 0, l25 = 0, l26 = 0, l27 = 0, l28 = 0, l29 = 0, l30 = 0, l31 = 0, l32 = 0, l33 = 0, l34 = 0, l35 = 0, l36 = 0, l37 = 0, l38 = 0, l39 = 0, l40 = 0, l41 = 0, l42 = 0, l43 = 0, l44 = 0, l45 = 0, l46 = 0, l47 = 0, l48 = 0, l49 = 0, l50 = 0, l51 = 0, l52 = 0, l53 = 0, l54 = 0, l55 = 0, l56 = 0, l57 = 0, l58 = 0, l59 = 0, l60 = 0, l61 = 0, l62 = 0, l63 = 0, l64 = 0, l65 = 0, l66 = 0, l67 = 0, l68 = 0, l69 = 0, l70 = 0, l71 = 0, l72 = 0, l73 = 0, l74 = 0, l75 = 0, l76 = 0, l77 = 0, l78 = 0, l79 = 0, l80 = 0, l81 = 0, l82 = 0, l83 = 0, l84 = 0, l85 = 0, l86 = 0, l87 = 0, l88 = 0, l89 = 0, l90 = 0, l91 = 0, l92 = 0, l93 = 0, l94 = 0, l95 = 0, l96 = 0, l97 = 0, l98 = 0, l99 = 0, l100 = 0, l101 = 0, l102 = 0, l103 = 0, l104 = 0, l105 = 0, l106 = 0, l107 = 0, l108 = 0, l109 = 0, l110 = 0, l111 = 0, l112 = 0, l113 = 0, l114 = 0, l115 = 0, l116 = 0, l117 = 0, l118 = 0, l119 = 0, l120 = 0, l121 = 0, l122 = 0, l123 = 0, l124 = 0, l125 = 0, l126 = 0, l127 = 0, l128 = 0, l129 = 0, l130 = 0, l131 = 0, l132 = 0, l133 = 0, l134 = 0, l135 = 0, l136 = 0, l137 = 0, l138 = 0, l139 = 0, l140 = 0, l141 = 0, l142 = 0, l143 = 0, l144 = 0, l145 = 0, l146 = 0, l147 = 0, l148 = 0, l149 = 0, l150 = 0, l151 = 0, l152 = 0, l153 = 0, l154 = 0, l155 = 0, l156 = 0, l157 = 0, l158 = 0, l159 = 0, l160 = 0, l161 = 0, l162 = 0, l163 = 0, l164 = 0, l165 = 0, l166 = 0, l167 = 0, l168 = 0, l169 = 0, l170 = 0, l171 = 0, l172 = 0, l173 = 0, l174 = 0, l175 = 0, l176 = 0, l177 = 0, l178 = 0, l179 = 0, l180 = 0, l181 = 0, l182 = 0, l183 = 0, l184 = 0, l185 = 0, l186 = 0, l187 = 0, l188 = 0, l189 = 0, l190 = 0, l191 = 0, l192 = 0, l193 = 0, l194 = 0, l195 = 0, l196 = 0, l197 = 0, l198 = 0, l199 = 0, l200 = 0, l201 = 0, l202 = 0, l203 = 0, l204 = 0, l205 = 0, l206 = 0, l207 = 0, l208 = 0, l209 = 0, l210 = 0, l211 = 0, l212 = 0, l213 = 0, l214 = 0;
   u32 i0, i1, i2, i3, i4, i5;
@@ -52618,7 +52897,7 @@ static void code_f65(uint8_t *const m, const u32 last, u64 p0, u32 p1, u32 p2, u
   j2 = l7;
   j3 = l8;
   j4 = l10;
-  call(i0 = code_f112(m, last, j0, j1, j2, j3, j4));
+  call(i0 = code_f113(m, last, j0, j1, j2, j3, j4));
   i1 = 255u;
   i0 &= i1;
   if (i0) {goto B24;}
@@ -52782,7 +53061,7 @@ static void code_f65(uint8_t *const m, const u32 last, u64 p0, u32 p1, u32 p2, u
     j2 = l7;
     j3 = l8;
     j4 = l10;
-    call(i0 = code_f112(m, last, j0, j1, j2, j3, j4));
+    call(i0 = code_f113(m, last, j0, j1, j2, j3, j4));
     i1 = 255u;
     i0 &= i1;
     if (i0) {goto B21;}
@@ -52818,7 +53097,7 @@ static void code_f65(uint8_t *const m, const u32 last, u64 p0, u32 p1, u32 p2, u
     j0 = l6;
     j1 = 5000ull;
     j0 += j1;
-    call(i0 = code_f113(m, last, j0));
+    call(i0 = code_f114(m, last, j0));
     i0 = !(i0);
     if (i0) {goto B20;}
     j0 = l6;
@@ -54119,7 +54398,7 @@ static void code_f65(uint8_t *const m, const u32 last, u64 p0, u32 p1, u32 p2, u
   j5 = l6;
   j6 = 5000ull;
   j5 += j6;
-  call(code_f61(m, last, j0, i1, i2, i3, j4, j5));
+  call(code_f62(m, last, j0, i1, i2, i3, j4, j5));
   i0 = p3;
   i0 = !(i0);
   if (i0) {goto B54;}
@@ -56034,7 +56313,7 @@ static void code_f65(uint8_t *const m, const u32 last, u64 p0, u32 p1, u32 p2, u
   j3 = 9ull;
   j4 = 1051193ull;
   j5 = 5ull;
-  call(code_f114(m, last, j0, j1, j2, j3, j4, j5));
+  call(code_f115(m, last, j0, j1, j2, j3, j4, j5));
   j0 = l6;
   i0 = (u32)(j0);
   i1 = 0u;
@@ -57946,7 +58225,7 @@ static void code_f65(uint8_t *const m, const u32 last, u64 p0, u32 p1, u32 p2, u
       j2 = l6;
       j3 = 3680ull;
       j2 += j3;
-      call(code_f115(m, last, j0, j1, j2));
+      call(code_f116(m, last, j0, j1, j2));
       j0 = l6;
       i0 = (u32)(j0);
       i32_load8_u_at(i0, frame, 272);
@@ -58052,7 +58331,7 @@ static void code_f65(uint8_t *const m, const u32 last, u64 p0, u32 p1, u32 p2, u
     j2 = 1560ull;
     j1 += j2;
     i2 = l215;
-    call(code_f116(m, last, j0, j1, i2));
+    call(code_f117(m, last, j0, j1, i2));
     j0 = l6;
     i0 = (u32)(j0);
     j1 = l6;
@@ -58092,7 +58371,7 @@ static void code_f65(uint8_t *const m, const u32 last, u64 p0, u32 p1, u32 p2, u
     j2 += j3;
     i3 = l216;
     j4 = l16;
-    call(code_f35(m, last, j0, j1, j2, i3, j4));
+    call(code_f36(m, last, j0, j1, j2, i3, j4));
     j0 = l6;
     i0 = (u32)(j0);
     i64_load_at(j0, frame, 1960);
@@ -58310,7 +58589,7 @@ static void code_f65(uint8_t *const m, const u32 last, u64 p0, u32 p1, u32 p2, u
       i2 = 0u;
       j3 = l11;
       j4 = l9;
-      call(code_f117(m, last, j0, j1, i2, j3, j4));
+      call(code_f118(m, last, j0, j1, i2, j3, j4));
       j0 = l6;
       i0 = (u32)(j0);
       i32_load8_u_at(i0, frame, 256);
@@ -58349,7 +58628,7 @@ static void code_f65(uint8_t *const m, const u32 last, u64 p0, u32 p1, u32 p2, u
   j0 = l6;
   j1 = 2040ull;
   j0 += j1;
-  call(code_f118(m, last, j0));
+  call(code_f119(m, last, j0));
   goto trap;
   B118:;
   j0 = l6;
@@ -58366,7 +58645,7 @@ static void code_f65(uint8_t *const m, const u32 last, u64 p0, u32 p1, u32 p2, u
   j0 = l6;
   j1 = 2040ull;
   j0 += j1;
-  call(code_f118(m, last, j0));
+  call(code_f119(m, last, j0));
   goto trap;
   B117:;
   j0 = l6;
@@ -58383,7 +58662,7 @@ static void code_f65(uint8_t *const m, const u32 last, u64 p0, u32 p1, u32 p2, u
   j0 = l6;
   j1 = 2040ull;
   j0 += j1;
-  call(code_f118(m, last, j0));
+  call(code_f119(m, last, j0));
   goto trap;
   B116:;
   j0 = l6;
@@ -58400,7 +58679,7 @@ static void code_f65(uint8_t *const m, const u32 last, u64 p0, u32 p1, u32 p2, u
   j0 = l6;
   j1 = 2040ull;
   j0 += j1;
-  call(code_f118(m, last, j0));
+  call(code_f119(m, last, j0));
   goto trap;
   B115:;
   j0 = l6;
@@ -58417,11 +58696,11 @@ static void code_f65(uint8_t *const m, const u32 last, u64 p0, u32 p1, u32 p2, u
   j0 = l6;
   j1 = 2040ull;
   j0 += j1;
-  call(code_f118(m, last, j0));
+  call(code_f119(m, last, j0));
   j0 = l6;
   j1 = 4000ull;
   j0 += j1;
-  call(i0 = code_f56(m, last, j0));
+  call(i0 = code_f57(m, last, j0));
   i0 = !(i0);
   if (i0) {goto B131;}
   j0 = l6;
@@ -58613,7 +58892,7 @@ static void code_f65(uint8_t *const m, const u32 last, u64 p0, u32 p1, u32 p2, u
   j0 = l6;
   j1 = 2040ull;
   j0 += j1;
-  call(code_f118(m, last, j0));
+  call(code_f119(m, last, j0));
   B80:;
   i0 = 1u;
   l215 = i0;
@@ -59473,7 +59752,7 @@ static void code_f65(uint8_t *const m, const u32 last, u64 p0, u32 p1, u32 p2, u
   j2 = l6;
   j3 = 2040ull;
   j2 += j3;
-  call(code_f63(m, last, j0, i1, j2));
+  call(code_f64(m, last, j0, i1, j2));
   j0 = l6;
   i0 = (u32)(j0);
   j1 = l6;
@@ -59879,7 +60158,7 @@ static void code_f65(uint8_t *const m, const u32 last, u64 p0, u32 p1, u32 p2, u
   j5 = 6ull;
   j6 = 1048609ull;
   j7 = 4ull;
-  call(code_f119(m, last, j0, j1, j2, j3, j4, j5, j6, j7));
+  call(code_f120(m, last, j0, j1, j2, j3, j4, j5, j6, j7));
   j0 = l6;
   i0 = (u32)(j0);
   i32_load8_u_at(i0, frame, 5000);
@@ -60283,7 +60562,7 @@ static void code_f65(uint8_t *const m, const u32 last, u64 p0, u32 p1, u32 p2, u
       j2 = l6;
       j3 = 4320ull;
       j2 += j3;
-      call(code_f115(m, last, j0, j1, j2));
+      call(code_f116(m, last, j0, j1, j2));
       i0 = 0u;
       l215 = i0;
       j0 = l6;
@@ -60403,7 +60682,7 @@ static void code_f65(uint8_t *const m, const u32 last, u64 p0, u32 p1, u32 p2, u
       j2 = l6;
       j3 = 4320ull;
       j2 += j3;
-      call(code_f115(m, last, j0, j1, j2));
+      call(code_f116(m, last, j0, j1, j2));
       j0 = l6;
       i0 = (u32)(j0);
       i32_load8_u_at(i0, frame, 208);
@@ -60471,7 +60750,7 @@ static void code_f65(uint8_t *const m, const u32 last, u64 p0, u32 p1, u32 p2, u
     j1 = l6;
     i1 = (u32)(j1);
     i32_load_at(i1, frame, 2208);
-    call(i0 = code_f120(m, last, j0, i1));
+    call(i0 = code_f121(m, last, j0, i1));
     l215 = i0;
     j0 = l6;
     i0 = (u32)(j0);
@@ -60767,7 +61046,7 @@ static void code_f65(uint8_t *const m, const u32 last, u64 p0, u32 p1, u32 p2, u
         j1 = 4416ull;
         j0 += j1;
         j1 = l10;
-        call(i0 = code_f121(m, last, j0, j1));
+        call(i0 = code_f122(m, last, j0, j1));
         i0 = !(i0);
         if (i0) {goto B196;}
         j0 = l6;
@@ -61166,7 +61445,7 @@ static void code_f65(uint8_t *const m, const u32 last, u64 p0, u32 p1, u32 p2, u
     j2 = l6;
     j3 = 4320ull;
     j2 += j3;
-    call(code_f115(m, last, j0, j1, j2));
+    call(code_f116(m, last, j0, j1, j2));
     j0 = l6;
     i0 = (u32)(j0);
     i32_load8_u_at(i0, frame, 192);
@@ -61194,7 +61473,7 @@ static void code_f65(uint8_t *const m, const u32 last, u64 p0, u32 p1, u32 p2, u
     i2 = 1u;
     j3 = l9;
     j4 = l11;
-    call(code_f117(m, last, j0, j1, i2, j3, j4));
+    call(code_f118(m, last, j0, j1, i2, j3, j4));
     j0 = l6;
     i0 = (u32)(j0);
     i32_load8_u_at(i0, frame, 176);
@@ -61217,7 +61496,7 @@ static void code_f65(uint8_t *const m, const u32 last, u64 p0, u32 p1, u32 p2, u
   j1 = 3680ull;
   j0 += j1;
   j1 = l166;
-  call(code_f122(m, last, j0, j1));
+  call(code_f123(m, last, j0, j1));
   j0 = l6;
   i0 = (u32)(j0);
   i64_load_at(j0, frame, 3808);
@@ -61238,7 +61517,7 @@ static void code_f65(uint8_t *const m, const u32 last, u64 p0, u32 p1, u32 p2, u
     i2 = 1u;
     j3 = l9;
     j4 = l11;
-    call(code_f117(m, last, j0, j1, i2, j3, j4));
+    call(code_f118(m, last, j0, j1, i2, j3, j4));
     j0 = l6;
     i0 = (u32)(j0);
     i32_load8_u_at(i0, frame, 160);
@@ -61349,7 +61628,7 @@ static void code_f65(uint8_t *const m, const u32 last, u64 p0, u32 p1, u32 p2, u
   j1 = 4640ull;
   j0 += j1;
   l11 = j0;
-  call(i0 = code_f56(m, last, j0));
+  call(i0 = code_f57(m, last, j0));
   i0 = !(i0);
   if (i0) {goto B229;}
   j0 = l6;
@@ -61420,7 +61699,7 @@ static void code_f65(uint8_t *const m, const u32 last, u64 p0, u32 p1, u32 p2, u
   goto B8;
   B227:;
   j0 = l11;
-  call(i0 = code_f56(m, last, j0));
+  call(i0 = code_f57(m, last, j0));
   i0 = !(i0);
   if (i0) {goto B230;}
   j0 = l6;
@@ -62245,7 +62524,7 @@ static void code_f65(uint8_t *const m, const u32 last, u64 p0, u32 p1, u32 p2, u
   j0 += j1;
   i1 = p3;
   i2 = 100u;
-  call(code_f64(m, last, j0, i1, i2));
+  call(code_f65(m, last, j0, i1, i2));
   j0 = l6;
   i0 = (u32)(j0);
   j1 = 0ull;
@@ -63365,7 +63644,7 @@ static void code_f65(uint8_t *const m, const u32 last, u64 p0, u32 p1, u32 p2, u
   j5 = 8ull;
   j6 = 1051460ull;
   j7 = 6ull;
-  call(code_f119(m, last, j0, j1, j2, j3, j4, j5, j6, j7));
+  call(code_f120(m, last, j0, j1, j2, j3, j4, j5, j6, j7));
   j0 = l6;
   i0 = (u32)(j0);
   i1 = 0u;
@@ -64779,7 +65058,7 @@ static void code_f65(uint8_t *const m, const u32 last, u64 p0, u32 p1, u32 p2, u
     i2 = 1u;
     j3 = l9;
     j4 = l11;
-    call(code_f117(m, last, j0, j1, i2, j3, j4));
+    call(code_f118(m, last, j0, j1, i2, j3, j4));
     j0 = l6;
     i0 = (u32)(j0);
     i32_load8_u_at(i0, frame, 144);
@@ -64858,7 +65137,7 @@ static void code_f65(uint8_t *const m, const u32 last, u64 p0, u32 p1, u32 p2, u
       j2 = l6;
       j3 = 5440ull;
       j2 += j3;
-      call(code_f115(m, last, j0, j1, j2));
+      call(code_f116(m, last, j0, j1, j2));
       i0 = 0u;
       l215 = i0;
       j0 = l6;
@@ -65006,7 +65285,7 @@ static void code_f65(uint8_t *const m, const u32 last, u64 p0, u32 p1, u32 p2, u
       j2 = l6;
       j3 = 5440ull;
       j2 += j3;
-      call(code_f115(m, last, j0, j1, j2));
+      call(code_f116(m, last, j0, j1, j2));
       j0 = l6;
       i0 = (u32)(j0);
       i32_load8_u_at(i0, frame, 80);
@@ -65380,7 +65659,7 @@ static void code_f65(uint8_t *const m, const u32 last, u64 p0, u32 p1, u32 p2, u
     j1 = l6;
     j2 = 6336ull;
     j1 += j2;
-    call(code_f123(m, last, j0, j1));
+    call(code_f124(m, last, j0, j1));
     j0 = l6;
     j1 = 6384ull;
     j0 += j1;
@@ -65412,7 +65691,7 @@ static void code_f65(uint8_t *const m, const u32 last, u64 p0, u32 p1, u32 p2, u
       i2 = 1u;
       j3 = l9;
       j4 = l11;
-      call(code_f117(m, last, j0, j1, i2, j3, j4));
+      call(code_f118(m, last, j0, j1, i2, j3, j4));
       j0 = l6;
       i0 = (u32)(j0);
       i32_load8_u_at(i0, frame, 112);
@@ -65676,7 +65955,7 @@ static void code_f65(uint8_t *const m, const u32 last, u64 p0, u32 p1, u32 p2, u
       i2 = 0u;
       j3 = l12;
       j4 = l7;
-      call(code_f117(m, last, j0, j1, i2, j3, j4));
+      call(code_f118(m, last, j0, j1, i2, j3, j4));
       j0 = l6;
       i0 = (u32)(j0);
       i32_load8_u_at(i0, frame, 96);
@@ -65993,7 +66272,7 @@ static void code_f65(uint8_t *const m, const u32 last, u64 p0, u32 p1, u32 p2, u
     j2 = l6;
     j3 = 5440ull;
     j2 += j3;
-    call(code_f115(m, last, j0, j1, j2));
+    call(code_f116(m, last, j0, j1, j2));
     j0 = l6;
     i0 = (u32)(j0);
     i32_load8_u_at(i0, frame, 64);
@@ -66028,7 +66307,7 @@ static void code_f65(uint8_t *const m, const u32 last, u64 p0, u32 p1, u32 p2, u
   i1 = (u32)(j1);
   i64_load_at(j1, frame, 2648);
   l12 = j1;
-  call(code_f66(m, last, j0, j1));
+  call(code_f67(m, last, j0, j1));
   j0 = l6;
   j1 = 5904ull;
   j0 += j1;
@@ -66053,7 +66332,7 @@ static void code_f65(uint8_t *const m, const u32 last, u64 p0, u32 p1, u32 p2, u
   i1 = (u32)(j1);
   i64_load_at(j1, frame, 2656);
   l11 = j1;
-  call(code_f66(m, last, j0, j1));
+  call(code_f67(m, last, j0, j1));
   j0 = l6;
   j1 = 5904ull;
   j0 += j1;
@@ -66077,7 +66356,7 @@ static void code_f65(uint8_t *const m, const u32 last, u64 p0, u32 p1, u32 p2, u
   j1 = l6;
   i1 = (u32)(j1);
   i64_load_at(j1, frame, 2664);
-  call(code_f66(m, last, j0, j1));
+  call(code_f67(m, last, j0, j1));
   j0 = l6;
   j1 = 5904ull;
   j0 += j1;
@@ -66128,7 +66407,7 @@ static void code_f65(uint8_t *const m, const u32 last, u64 p0, u32 p1, u32 p2, u
     i2 = 1u;
     j3 = l11;
     j4 = l9;
-    call(code_f117(m, last, j0, j1, i2, j3, j4));
+    call(code_f118(m, last, j0, j1, i2, j3, j4));
     j0 = l6;
     i0 = (u32)(j0);
     i32_load8_u_at(i0, frame, 48);
@@ -66379,7 +66658,7 @@ static void code_f65(uint8_t *const m, const u32 last, u64 p0, u32 p1, u32 p2, u
   j1 = 5760ull;
   j0 += j1;
   l9 = j0;
-  call(i0 = code_f56(m, last, j0));
+  call(i0 = code_f57(m, last, j0));
   i0 = !(i0);
   if (i0) {goto B334;}
   j0 = l6;
@@ -66451,7 +66730,7 @@ static void code_f65(uint8_t *const m, const u32 last, u64 p0, u32 p1, u32 p2, u
   goto trap;
   B7:;
   j0 = l9;
-  call(i0 = code_f56(m, last, j0));
+  call(i0 = code_f57(m, last, j0));
   i0 = !(i0);
   if (i0) {goto B335;}
   j0 = l6;
@@ -67285,7 +67564,7 @@ static void code_f65(uint8_t *const m, const u32 last, u64 p0, u32 p1, u32 p2, u
   j1 = l6;
   j2 = 352ull;
   j1 += j2;
-  call(code_f124(m, last, j0, j1));
+  call(code_f125(m, last, j0, j1));
   j0 = l6;
   j1 = 32ull;
   j0 += j1;
@@ -67302,7 +67581,7 @@ static void code_f65(uint8_t *const m, const u32 last, u64 p0, u32 p1, u32 p2, u
   l15 = j2;
   j3 = 1051184ull;
   j4 = 9ull;
-  call(code_f34(m, last, j0, j1, j2, j3, j4));
+  call(code_f35(m, last, j0, j1, j2, j3, j4));
   j0 = 0ull;
   l7 = j0;
   j0 = 0ull;
@@ -67333,7 +67612,7 @@ static void code_f65(uint8_t *const m, const u32 last, u64 p0, u32 p1, u32 p2, u
   j2 = l15;
   j3 = 1051193ull;
   j4 = 5ull;
-  call(code_f34(m, last, j0, j1, j2, j3, j4));
+  call(code_f35(m, last, j0, j1, j2, j3, j4));
   j0 = l6;
   i0 = (u32)(j0);
   i32_load8_u_at(i0, frame, 16);
@@ -67358,7 +67637,7 @@ static void code_f65(uint8_t *const m, const u32 last, u64 p0, u32 p1, u32 p2, u
   j2 = l15;
   j3 = 1051198ull;
   j4 = 6ull;
-  call(code_f34(m, last, j0, j1, j2, j3, j4));
+  call(code_f35(m, last, j0, j1, j2, j3, j4));
   j0 = 0ull;
   l15 = j0;
   j0 = l6;
@@ -67554,7 +67833,7 @@ static void code_f65(uint8_t *const m, const u32 last, u64 p0, u32 p1, u32 p2, u
   return;
 }
 
-static void code_f66(uint8_t *const m, const u32 last, u64 p0, u64 p1) {
+static void code_f67(uint8_t *const m, const u32 last, u64 p0, u64 p1) {
   u32 l6 = 0, l7 = 0;
   u64 l2 = 0, l3 = 0, l4 = 0, l5 = 0;
   u32 i0, i1, i2, i3;
@@ -67794,7 +68073,7 @@ static void code_f66(uint8_t *const m, const u32 last, u64 p0, u64 p1) {
   return;
 }
 
-static void code_f67(uint8_t *const m, const u32 last, u64 p0, u64 p1, u64 p2, u64 p3) {
+static void code_f68(uint8_t *const m, const u32 last, u64 p0, u64 p1, u64 p2, u64 p3) {
   u32 l7 = 0, l8 = 0, l9 = 0, l10 = 0, l11 = 0, l12 = 0, l13 = 0, l14 = 0, l15 = 0, l16 = 0, l17 = 0, l18 = 0, l19 = 0, l20 = 0, l21 = 0, l22 = 0, l23 = 0;
   u64 l4 = 0, l5 = 0, l6 = 0;
   u32 i0, i1, i2, i3, i4;
@@ -68582,7 +68861,7 @@ static void code_f67(uint8_t *const m, const u32 last, u64 p0, u64 p1, u64 p2, u
   return;
 }
 
-static void code_f68(uint8_t *const m, const u32 last, u64 p0, u64 p1) {
+static void code_f69(uint8_t *const m, const u32 last, u64 p0, u64 p1) {
   u32 l8 = 0, l9 = 0, l10 = 0;
   u64 l2 = 0, l3 = 0, l4 = 0, l5 = 0, l6 = 0, l7 = 0;
   u32 i0, i1, i2;
@@ -68911,7 +69190,7 @@ static void code_f68(uint8_t *const m, const u32 last, u64 p0, u64 p1) {
   j0 += j1;
   j1 = p1;
   j2 = l3;
-  call(code_f84(m, last, j0, j1, j2));
+  call(code_f85(m, last, j0, j1, j2));
   j0 = l2;
   i0 = (u32)(j0);
   i32_load8_u_at(i0, frame, 768);
@@ -68937,7 +69216,7 @@ static void code_f68(uint8_t *const m, const u32 last, u64 p0, u64 p1) {
   j0 += j1;
   i1 = l8;
   j2 = l3;
-  call(code_f85(m, last, j0, i1, j2));
+  call(code_f86(m, last, j0, i1, j2));
   j0 = l2;
   i0 = (u32)(j0);
   i32_load8_u_at(i0, frame, 664);
@@ -68982,7 +69261,7 @@ static void code_f68(uint8_t *const m, const u32 last, u64 p0, u64 p1) {
   j2 = p1;
   j3 = 16656ull;
   j2 += j3;
-  call(code_f86(m, last, j0, j1, j2));
+  call(code_f87(m, last, j0, j1, j2));
   j0 = l2;
   i0 = (u32)(j0);
   i32_load8_u_at(i0, frame, 880);
@@ -69026,7 +69305,7 @@ static void code_f68(uint8_t *const m, const u32 last, u64 p0, u64 p1) {
   j1 = 136ull;
   j0 += j1;
   j1 = l3;
-  call(code_f87(m, last, j0, j1));
+  call(code_f88(m, last, j0, j1));
   j0 = 0ull;
   l3 = j0;
   j0 = l2;
@@ -69285,7 +69564,7 @@ static void code_f68(uint8_t *const m, const u32 last, u64 p0, u64 p1) {
   j2 = l2;
   j3 = 384ull;
   j2 += j3;
-  call(code_f88(m, last, j0, j1, j2));
+  call(code_f89(m, last, j0, j1, j2));
   j0 = l2;
   i0 = (u32)(j0);
   j1 = l2;
@@ -69533,7 +69812,7 @@ static void code_f68(uint8_t *const m, const u32 last, u64 p0, u64 p1) {
   return;
 }
 
-static u32 code_f69(uint8_t *const m, const u32 last, u64 p0) {
+static u32 code_f70(uint8_t *const m, const u32 last, u64 p0) {
   u32 l6 = 0;
   u64 l1 = 0, l2 = 0, l3 = 0, l4 = 0, l5 = 0;
   u32 i0, i1, i2;
@@ -69660,7 +69939,7 @@ static u32 code_f69(uint8_t *const m, const u32 last, u64 p0) {
   return 0;
 }
 
-static void code_f70(uint8_t *const m, const u32 last, u64 p0) {
+static void code_f71(uint8_t *const m, const u32 last, u64 p0) {
   u64 l1 = 0, l2 = 0, l3 = 0, l4 = 0, l5 = 0, l6 = 0, l7 = 0, l8 = 0, l9 = 0, l10 = 0, l11 = 0, l12 = 0, l13 = 0, l14 = 0, l15 = 0, l16 = 0, l17 = 0, l18 = 0, l19 = 0, l20 = 0, l21 = 0, l22 = 0, l23 = 0, l24 = 0, l25 = 0;
   u32 i0;
   u64 j0, j1;
@@ -69921,7 +70200,7 @@ static void code_f70(uint8_t *const m, const u32 last, u64 p0) {
   return;
 }
 
-static void code_f71(uint8_t *const m, const u32 last, u64 p0) {
+static void code_f72(uint8_t *const m, const u32 last, u64 p0) {
   u64 l1 = 0, l2 = 0, l3 = 0, l4 = 0, l5 = 0;
   u32 i0, i3;
   u64 j0, j1, j2, j3;
@@ -70034,7 +70313,7 @@ static void code_f71(uint8_t *const m, const u32 last, u64 p0) {
   return;
 }
 
-static u32 code_f72(uint8_t *const m, const u32 last, u64 p0, u64 p1) {
+static u32 code_f73(uint8_t *const m, const u32 last, u64 p0, u64 p1) {
   u32 l2 = 0;
   u64 l3 = 0, l4 = 0;
   u32 i0, i1, i2, i3;
@@ -70192,7 +70471,7 @@ static u32 code_f72(uint8_t *const m, const u32 last, u64 p0, u64 p1) {
   return 0;
 }
 
-static u32 code_f73(uint8_t *const m, const u32 last, u64 p0) {
+static u32 code_f74(uint8_t *const m, const u32 last, u64 p0) {
   u32 l6 = 0;
   u64 l1 = 0, l2 = 0, l3 = 0, l4 = 0, l5 = 0;
   u32 i0, i1, i2;
@@ -70319,7 +70598,7 @@ static u32 code_f73(uint8_t *const m, const u32 last, u64 p0) {
   return 0;
 }
 
-static u32 code_f74(uint8_t *const m, const u32 last, u64 p0) {
+static u32 code_f75(uint8_t *const m, const u32 last, u64 p0) {
   u32 l6 = 0;
   u64 l1 = 0, l2 = 0, l3 = 0, l4 = 0, l5 = 0;
   u32 i0, i1, i2;
@@ -70446,7 +70725,7 @@ static u32 code_f74(uint8_t *const m, const u32 last, u64 p0) {
   return 0;
 }
 
-static u32 code_f75(uint8_t *const m, const u32 last, u64 p0) {
+static u32 code_f76(uint8_t *const m, const u32 last, u64 p0) {
   u32 l6 = 0;
   u64 l1 = 0, l2 = 0, l3 = 0, l4 = 0, l5 = 0;
   u32 i0, i1, i2;
@@ -70573,7 +70852,7 @@ static u32 code_f75(uint8_t *const m, const u32 last, u64 p0) {
   return 0;
 }
 
-static u32 code_f76(uint8_t *const m, const u32 last, u64 p0) {
+static u32 code_f77(uint8_t *const m, const u32 last, u64 p0) {
   u32 l6 = 0;
   u64 l1 = 0, l2 = 0, l3 = 0, l4 = 0, l5 = 0;
   u32 i0, i1, i2;
@@ -70700,7 +70979,7 @@ static u32 code_f76(uint8_t *const m, const u32 last, u64 p0) {
   return 0;
 }
 
-static void code_f77(uint8_t *const m, const u32 last, u64 p0, u64 p1) {
+static void code_f78(uint8_t *const m, const u32 last, u64 p0, u64 p1) {
   u32 l35 = 0, l36 = 0, l37 = 0;
   u64 l2 = 0, l3 = 0, l4 = 0, l5 = 0, l6 = 0, l7 = 0, l8 = 0, l9 = 0, l10 = 0, l11 = 0, l12 = 0, l13 = 0, l14 = 0, l15 = 0, l16 = 0, l17 = 0, l18 = 0, l19 = 0, l20 = 0, l21 = 0, l22 = 0, l23 = 0, l24 = 0, l25 = 0, l26 = 0, l27 = 0, l28 = 0, l29 = 0, l30 = 0, l31 = 0, l32 = 0, l33 = 0, l34 = 0;
   u32 i0, i1, i2, i3, i6;
@@ -70931,7 +71210,7 @@ static void code_f77(uint8_t *const m, const u32 last, u64 p0, u64 p1) {
   i6 = j6 < j7;
   j4 = i6 ? j4 : j5;
   l31 = j4;
-  call(code_f101(m, last, j0, j1, j2, i3, j4));
+  call(code_f102(m, last, j0, j1, j2, i3, j4));
   j0 = l2;
   i0 = (u32)(j0);
   i32_load8_u_at(i0, frame, 312);
@@ -70971,7 +71250,7 @@ static void code_f77(uint8_t *const m, const u32 last, u64 p0, u64 p1) {
   j2 = p1;
   i3 = 1u;
   j4 = l31;
-  call(code_f101(m, last, j0, j1, j2, i3, j4));
+  call(code_f102(m, last, j0, j1, j2, i3, j4));
   j0 = l2;
   i0 = (u32)(j0);
   i32_load8_u_at(i0, frame, 248);
@@ -71011,7 +71290,7 @@ static void code_f77(uint8_t *const m, const u32 last, u64 p0, u64 p1) {
   j2 = p1;
   i3 = 2u;
   j4 = l31;
-  call(code_f101(m, last, j0, j1, j2, i3, j4));
+  call(code_f102(m, last, j0, j1, j2, i3, j4));
   j0 = l2;
   i0 = (u32)(j0);
   i32_load8_u_at(i0, frame, 184);
@@ -71130,7 +71409,7 @@ static void code_f77(uint8_t *const m, const u32 last, u64 p0, u64 p1) {
     j0 = l2;
     j1 = 496ull;
     j0 += j1;
-    call(i0 = code_f102(m, last, j0));
+    call(i0 = code_f103(m, last, j0));
     i0 = !(i0);
     if (i0) {goto B7;}
     j0 = l2;
@@ -71227,7 +71506,7 @@ static void code_f77(uint8_t *const m, const u32 last, u64 p0, u64 p1) {
   j2 = 376ull;
   j1 += j2;
   j2 = l31;
-  call(code_f103(m, last, j0, j1, j2));
+  call(code_f104(m, last, j0, j1, j2));
   j0 = l2;
   i0 = (u32)(j0);
   j1 = l2;
@@ -71717,7 +71996,7 @@ static void code_f77(uint8_t *const m, const u32 last, u64 p0, u64 p1) {
   return;
 }
 
-static void code_f78(uint8_t *const m, const u32 last, u64 p0, u64 p1) {
+static void code_f79(uint8_t *const m, const u32 last, u64 p0, u64 p1) {
   u32 l11 = 0, l12 = 0, l13 = 0;
   u64 l2 = 0, l3 = 0, l4 = 0, l5 = 0, l6 = 0, l7 = 0, l8 = 0, l9 = 0, l10 = 0;
   u32 i0, i1, i2;
@@ -71902,7 +72181,7 @@ static void code_f78(uint8_t *const m, const u32 last, u64 p0, u64 p1) {
     j0 = l2;
     j1 = 240ull;
     j0 += j1;
-    call(i0 = code_f102(m, last, j0));
+    call(i0 = code_f103(m, last, j0));
     i0 = !(i0);
     if (i0) {goto B2;}
     j0 = l2;
@@ -71998,7 +72277,7 @@ static void code_f78(uint8_t *const m, const u32 last, u64 p0, u64 p1) {
   j2 = 120ull;
   j1 += j2;
   j2 = l8;
-  call(code_f103(m, last, j0, j1, j2));
+  call(code_f104(m, last, j0, j1, j2));
   j0 = l2;
   i0 = (u32)(j0);
   j1 = l2;
@@ -72220,7 +72499,7 @@ static void code_f78(uint8_t *const m, const u32 last, u64 p0, u64 p1) {
   return;
 }
 
-static void code_f79(uint8_t *const m, const u32 last, u64 p0, u64 p1) {
+static void code_f80(uint8_t *const m, const u32 last, u64 p0, u64 p1) {
   u32 l5 = 0;
   u64 l2 = 0, l3 = 0, l4 = 0;
   u32 i0, i1, i2;
@@ -72262,7 +72541,7 @@ static void code_f79(uint8_t *const m, const u32 last, u64 p0, u64 p1) {
   j0 += j1;
   j1 = p1;
   j2 = 1ull;
-  call(code_f80(m, last, j0, j1, j2));
+  call(code_f81(m, last, j0, j1, j2));
   j0 = l2;
   i0 = (u32)(j0);
   i32_load8_u_at(i0, frame, 24);
@@ -72312,7 +72591,7 @@ static void code_f79(uint8_t *const m, const u32 last, u64 p0, u64 p1) {
   j2 -= j3;
   j3 = 0ull;
   j4 = 7ull;
-  call(code_f51(m, last, j0, j1, j2, j3, j4));
+  call(code_f52(m, last, j0, j1, j2, j3, j4));
   j0 = l2;
   i0 = (u32)(j0);
   i32_load8_u_at(i0, frame, 8);
@@ -72401,7 +72680,7 @@ static void code_f79(uint8_t *const m, const u32 last, u64 p0, u64 p1) {
   return;
 }
 
-static void code_f80(uint8_t *const m, const u32 last, u64 p0, u64 p1, u64 p2) {
+static void code_f81(uint8_t *const m, const u32 last, u64 p0, u64 p1, u64 p2) {
   u64 l3 = 0, l4 = 0, l5 = 0;
   u32 i0, i1, i2, i3;
   u64 j0, j1, j2, j3, j4;
@@ -72460,7 +72739,7 @@ static void code_f80(uint8_t *const m, const u32 last, u64 p0, u64 p1, u64 p2) {
   j2 -= j3;
   j3 = 0ull;
   j4 = 4294967295ull;
-  call(code_f51(m, last, j0, j1, j2, j3, j4));
+  call(code_f52(m, last, j0, j1, j2, j3, j4));
   j0 = l3;
   i0 = (u32)(j0);
   i32_load8_u_at(i0, frame, 32);
@@ -72513,7 +72792,7 @@ static void code_f80(uint8_t *const m, const u32 last, u64 p0, u64 p1, u64 p2) {
   j4 = 4294967295ull;
   j3 &= j4;
   j4 = 4294967295ull;
-  call(code_f51(m, last, j0, j1, j2, j3, j4));
+  call(code_f52(m, last, j0, j1, j2, j3, j4));
   j0 = l3;
   i0 = (u32)(j0);
   i32_load8_u_at(i0, frame, 16);
@@ -72563,7 +72842,7 @@ static void code_f80(uint8_t *const m, const u32 last, u64 p0, u64 p1, u64 p2) {
   j2 -= j3;
   j3 = 1ull;
   j4 = 4294967295ull;
-  call(code_f51(m, last, j0, j1, j2, j3, j4));
+  call(code_f52(m, last, j0, j1, j2, j3, j4));
   j0 = l3;
   i0 = (u32)(j0);
   i32_load8_u_at(i0, frame, 0);
@@ -72672,7 +72951,7 @@ static void code_f80(uint8_t *const m, const u32 last, u64 p0, u64 p1, u64 p2) {
   return;
 }
 
-static u32 code_f81(uint8_t *const m, const u32 last, u64 p0) {
+static u32 code_f82(uint8_t *const m, const u32 last, u64 p0) {
   u32 l6 = 0;
   u64 l1 = 0, l2 = 0, l3 = 0, l4 = 0, l5 = 0;
   u32 i0, i1, i2;
@@ -72789,136 +73068,6 @@ static u32 code_f81(uint8_t *const m, const u32 last, u64 p0) {
   l6 = i0;
   B0:;
   j0 = l1;
-  j1 = 32ull;
-  j0 += j1;
-  set_stack(j0);
-  i0 = l6;
-  return i0;
-  trap:
-  set_broken(m);
-  return 0;
-}
-
-static u32 code_f82(uint8_t *const m, const u32 last, u64 p0, u64 p1) {
-  u32 l6 = 0;
-  u64 l2 = 0, l3 = 0, l4 = 0, l5 = 0;
-  u32 i0, i1, i2;
-  u64 j0, j1, j2, j3, j4;
-  uint8_t *a0, *frame;
-  enter(l2, 32);
-  frame = place(l2);
-  j0 = l2;
-  i0 = 0u;
-  l6 = i0;
-  j0 = p1;
-  j1 = p0;
-  j2 = 8ull;
-  j1 += j2;
-  i1 = (u32)(j1);
-  i64_load(j1, i1, 0);
-  l3 = j1;
-  j2 = 18446744073709551615ull;
-  j1 ^= j2;
-  i0 = j0 > j1;
-  if (i0) {goto B0;}
-  j0 = l3;
-  j1 = p1;
-  j0 += j1;
-  p1 = j0;
-  j1 = 4ull;
-  j2 = p1;
-  j3 = 4ull;
-  i2 = j2 > j3;
-  j0 = i2 ? j0 : j1;
-  p1 = j0;
-  j1 = p0;
-  j2 = 16ull;
-  j1 += j2;
-  i1 = (u32)(j1);
-  reach(a0, i1, 0, 0);
-  i64_load_at(j1, a0, 0);
-  l4 = j1;
-  j2 = 1ull;
-  j1 <<= (j2 & 63);
-  l5 = j1;
-  j2 = p1;
-  j3 = l5;
-  i2 = j2 > j3;
-  j0 = i2 ? j0 : j1;
-  l5 = j0;
-  j1 = p1;
-  j2 = l4;
-  j3 = 4611686018427387904ull;
-  i2 = j2 < j3;
-  j0 = i2 ? j0 : j1;
-  p1 = j0;
-  j1 = 576460752303423487ull;
-  i0 = j0 > j1;
-  if (i0) {goto B0;}
-  j0 = l4;
-  i0 = !(j0);
-  if (i0) {goto B2;}
-  j0 = l2;
-  j1 = 16ull;
-  j0 += j1;
-  j1 = p0;
-  i1 = (u32)(j1);
-  i64_load(j1, i1, 0);
-  j2 = l3;
-  j3 = 4ull;
-  j2 <<= (j3 & 63);
-  j3 = p1;
-  j4 = 4ull;
-  j3 <<= (j4 & 63);
-  j4 = 4ull;
-  call(heap_realloc(m, last, j0, j1, j2, j3, j4));
-  j0 = l2;
-  i0 = (u32)(j0);
-  i64_load_at(j0, frame, 16);
-  i0 = (u32)(j0);
-  i1 = 1u;
-  i0 &= i1;
-  i0 = !(i0);
-  if (i0) {goto B0;}
-  j0 = l2;
-  i0 = (u32)(j0);
-  i64_load_at(j0, frame, 24);
-  l3 = j0;
-  goto B1;
-  B2:;
-  j0 = l2;
-  j1 = l5;
-  j2 = 4ull;
-  j1 <<= (j2 & 63);
-  j2 = 4ull;
-  call(heap_alloc(m, last, j0, j1, j2));
-  j0 = l2;
-  i0 = (u32)(j0);
-  i64_load_at(j0, frame, 0);
-  i0 = (u32)(j0);
-  i1 = 1u;
-  i0 &= i1;
-  i0 = !(i0);
-  if (i0) {goto B0;}
-  j0 = l2;
-  i0 = (u32)(j0);
-  i64_load_at(j0, frame, 8);
-  l3 = j0;
-  B1:;
-  j0 = p0;
-  j1 = 16ull;
-  j0 += j1;
-  i0 = (u32)(j0);
-  j1 = p1;
-  i64_store_at(j1, a0, 0);
-  j0 = p0;
-  i0 = (u32)(j0);
-  j1 = l3;
-  i64_store(j1, i0, 0);
-  i0 = 1u;
-  l6 = i0;
-  B0:;
-  j0 = l2;
   j1 = 32ull;
   j0 += j1;
   set_stack(j0);
@@ -73059,7 +73208,137 @@ static u32 code_f83(uint8_t *const m, const u32 last, u64 p0, u64 p1) {
   return 0;
 }
 
-static void code_f84(uint8_t *const m, const u32 last, u64 p0, u64 p1, u64 p2) {
+static u32 code_f84(uint8_t *const m, const u32 last, u64 p0, u64 p1) {
+  u32 l6 = 0;
+  u64 l2 = 0, l3 = 0, l4 = 0, l5 = 0;
+  u32 i0, i1, i2;
+  u64 j0, j1, j2, j3, j4;
+  uint8_t *a0, *frame;
+  enter(l2, 32);
+  frame = place(l2);
+  j0 = l2;
+  i0 = 0u;
+  l6 = i0;
+  j0 = p1;
+  j1 = p0;
+  j2 = 8ull;
+  j1 += j2;
+  i1 = (u32)(j1);
+  i64_load(j1, i1, 0);
+  l3 = j1;
+  j2 = 18446744073709551615ull;
+  j1 ^= j2;
+  i0 = j0 > j1;
+  if (i0) {goto B0;}
+  j0 = l3;
+  j1 = p1;
+  j0 += j1;
+  p1 = j0;
+  j1 = 4ull;
+  j2 = p1;
+  j3 = 4ull;
+  i2 = j2 > j3;
+  j0 = i2 ? j0 : j1;
+  p1 = j0;
+  j1 = p0;
+  j2 = 16ull;
+  j1 += j2;
+  i1 = (u32)(j1);
+  reach(a0, i1, 0, 0);
+  i64_load_at(j1, a0, 0);
+  l4 = j1;
+  j2 = 1ull;
+  j1 <<= (j2 & 63);
+  l5 = j1;
+  j2 = p1;
+  j3 = l5;
+  i2 = j2 > j3;
+  j0 = i2 ? j0 : j1;
+  l5 = j0;
+  j1 = p1;
+  j2 = l4;
+  j3 = 4611686018427387904ull;
+  i2 = j2 < j3;
+  j0 = i2 ? j0 : j1;
+  p1 = j0;
+  j1 = 576460752303423487ull;
+  i0 = j0 > j1;
+  if (i0) {goto B0;}
+  j0 = l4;
+  i0 = !(j0);
+  if (i0) {goto B2;}
+  j0 = l2;
+  j1 = 16ull;
+  j0 += j1;
+  j1 = p0;
+  i1 = (u32)(j1);
+  i64_load(j1, i1, 0);
+  j2 = l3;
+  j3 = 4ull;
+  j2 <<= (j3 & 63);
+  j3 = p1;
+  j4 = 4ull;
+  j3 <<= (j4 & 63);
+  j4 = 4ull;
+  call(heap_realloc(m, last, j0, j1, j2, j3, j4));
+  j0 = l2;
+  i0 = (u32)(j0);
+  i64_load_at(j0, frame, 16);
+  i0 = (u32)(j0);
+  i1 = 1u;
+  i0 &= i1;
+  i0 = !(i0);
+  if (i0) {goto B0;}
+  j0 = l2;
+  i0 = (u32)(j0);
+  i64_load_at(j0, frame, 24);
+  l3 = j0;
+  goto B1;
+  B2:;
+  j0 = l2;
+  j1 = l5;
+  j2 = 4ull;
+  j1 <<= (j2 & 63);
+  j2 = 4ull;
+  call(heap_alloc(m, last, j0, j1, j2));
+  j0 = l2;
+  i0 = (u32)(j0);
+  i64_load_at(j0, frame, 0);
+  i0 = (u32)(j0);
+  i1 = 1u;
+  i0 &= i1;
+  i0 = !(i0);
+  if (i0) {goto B0;}
+  j0 = l2;
+  i0 = (u32)(j0);
+  i64_load_at(j0, frame, 8);
+  l3 = j0;
+  B1:;
+  j0 = p0;
+  j1 = 16ull;
+  j0 += j1;
+  i0 = (u32)(j0);
+  j1 = p1;
+  i64_store_at(j1, a0, 0);
+  j0 = p0;
+  i0 = (u32)(j0);
+  j1 = l3;
+  i64_store(j1, i0, 0);
+  i0 = 1u;
+  l6 = i0;
+  B0:;
+  j0 = l2;
+  j1 = 32ull;
+  j0 += j1;
+  set_stack(j0);
+  i0 = l6;
+  return i0;
+  trap:
+  set_broken(m);
+  return 0;
+}
+
+static void code_f85(uint8_t *const m, const u32 last, u64 p0, u64 p1, u64 p2) {
   u32 l31 = 0, l32 = 0, l33 = 0, l34 = 0;
   u64 l3 = 0, l4 = 0, l5 = 0, l6 = 0, l7 = 0, l8 = 0, l9 = 0, l10 = 0, l11 = 0, l12 = 0, l13 = 0, l14 = 0, l15 = 0, l16 = 0, l17 = 0, l18 = 0, l19 = 0, l20 = 0, l21 = 0, l22 = 0, l23 = 0, l24 = 0, l25 = 0, l26 = 0, l27 = 0, l28 = 0, l29 = 0, l30 = 0;
   u32 i0, i1, i2, i3;
@@ -73268,7 +73547,7 @@ static void code_f84(uint8_t *const m, const u32 last, u64 p0, u64 p1, u64 p2) {
   j1 = 368ull;
   j0 += j1;
   j1 = p1;
-  call(code_f89(m, last, j0, j1));
+  call(code_f90(m, last, j0, j1));
   j0 = l3;
   i0 = (u32)(j0);
   i32_load8_u_at(i0, frame, 368);
@@ -73333,7 +73612,7 @@ static void code_f84(uint8_t *const m, const u32 last, u64 p0, u64 p1, u64 p2) {
     j1 = 176ull;
     j0 += j1;
     j1 = p1;
-    call(code_f90(m, last, j0, j1));
+    call(code_f91(m, last, j0, j1));
     j0 = l3;
     i0 = (u32)(j0);
     i64_load_at(j0, frame, 184);
@@ -73388,7 +73667,7 @@ static void code_f84(uint8_t *const m, const u32 last, u64 p0, u64 p1, u64 p2) {
     j1 = 24ull;
     j0 += j1;
     j1 = 1ull;
-    call(i0 = code_f91(m, last, j0, j1));
+    call(i0 = code_f92(m, last, j0, j1));
     i0 = !(i0);
     if (i0) {goto B7;}
     j0 = l5;
@@ -73438,7 +73717,7 @@ static void code_f84(uint8_t *const m, const u32 last, u64 p0, u64 p1, u64 p2) {
     if (i0) {goto B17;}
     j0 = p2;
     j1 = 1ull;
-    call(i0 = code_f92(m, last, j0, j1));
+    call(i0 = code_f93(m, last, j0, j1));
     i0 = !(i0);
     if (i0) {goto B7;}
     B17:;
@@ -73461,7 +73740,7 @@ static void code_f84(uint8_t *const m, const u32 last, u64 p0, u64 p1, u64 p2) {
     j1 = 24ull;
     j0 += j1;
     j1 = 1ull;
-    call(i0 = code_f91(m, last, j0, j1));
+    call(i0 = code_f92(m, last, j0, j1));
     i0 = !(i0);
     if (i0) {goto B7;}
     j0 = p2;
@@ -74617,7 +74896,7 @@ static void code_f84(uint8_t *const m, const u32 last, u64 p0, u64 p1, u64 p2) {
   return;
 }
 
-static void code_f85(uint8_t *const m, const u32 last, u64 p0, u32 p1, u64 p2) {
+static void code_f86(uint8_t *const m, const u32 last, u64 p0, u32 p1, u64 p2) {
   u32 i0, i1, i2;
   u64 j0, j1, j2;
   uint8_t *a0;
@@ -74628,7 +74907,7 @@ static void code_f85(uint8_t *const m, const u32 last, u64 p0, u32 p1, u64 p2) {
   i0 = i0 != i1;
   if (i0) {goto B0;}
   j0 = p2;
-  call(i0 = code_f94(m, last, j0));
+  call(i0 = code_f95(m, last, j0));
   i1 = 255u;
   i0 &= i1;
   i0 = !(i0);
@@ -74673,7 +74952,7 @@ static void code_f85(uint8_t *const m, const u32 last, u64 p0, u32 p1, u64 p2) {
   return;
 }
 
-static void code_f86(uint8_t *const m, const u32 last, u64 p0, u64 p1, u64 p2) {
+static void code_f87(uint8_t *const m, const u32 last, u64 p0, u64 p1, u64 p2) {
   u32 l4 = 0, l5 = 0, l6 = 0, l7 = 0;
   u64 l3 = 0;
   u32 i0, i1, i2;
@@ -74775,7 +75054,7 @@ static void code_f86(uint8_t *const m, const u32 last, u64 p0, u64 p1, u64 p2) {
   j0 += j1;
   j1 = p1;
   j2 = p2;
-  call(code_f96(m, last, j0, j1, j2));
+  call(code_f97(m, last, j0, j1, j2));
   j0 = p0;
   i0 = (u32)(j0);
   j1 = l3;
@@ -74811,7 +75090,7 @@ static void code_f86(uint8_t *const m, const u32 last, u64 p0, u64 p1, u64 p2) {
   j0 += j1;
   j1 = p1;
   j2 = p2;
-  call(code_f84(m, last, j0, j1, j2));
+  call(code_f85(m, last, j0, j1, j2));
   j0 = l3;
   i0 = (u32)(j0);
   i32_load8_u_at(i0, frame, 528);
@@ -74838,7 +75117,7 @@ static void code_f86(uint8_t *const m, const u32 last, u64 p0, u64 p1, u64 p2) {
   j0 += j1;
   i1 = l5;
   j2 = p2;
-  call(code_f85(m, last, j0, i1, j2));
+  call(code_f86(m, last, j0, i1, j2));
   j0 = l3;
   i0 = (u32)(j0);
   i32_load8_u_at(i0, frame, 424);
@@ -74925,7 +75204,7 @@ static void code_f86(uint8_t *const m, const u32 last, u64 p0, u64 p1, u64 p2) {
   j0 += j1;
   j1 = p1;
   j2 = p2;
-  call(code_f97(m, last, j0, j1, j2));
+  call(code_f98(m, last, j0, j1, j2));
   j0 = l3;
   i0 = (u32)(j0);
   i32_load8_u_at(i0, frame, 320);
@@ -74939,7 +75218,7 @@ static void code_f86(uint8_t *const m, const u32 last, u64 p0, u64 p1, u64 p2) {
   j0 += j1;
   i1 = l5;
   j2 = p2;
-  call(code_f85(m, last, j0, i1, j2));
+  call(code_f86(m, last, j0, i1, j2));
   j0 = l3;
   i0 = (u32)(j0);
   i32_load8_u_at(i0, frame, 216);
@@ -74998,7 +75277,7 @@ static void code_f86(uint8_t *const m, const u32 last, u64 p0, u64 p1, u64 p2) {
   j0 += j1;
   j1 = p1;
   j2 = p2;
-  call(code_f84(m, last, j0, j1, j2));
+  call(code_f85(m, last, j0, j1, j2));
   j0 = l3;
   i0 = (u32)(j0);
   i32_load8_u_at(i0, frame, 112);
@@ -75018,7 +75297,7 @@ static void code_f86(uint8_t *const m, const u32 last, u64 p0, u64 p1, u64 p2) {
   j0 += j1;
   i1 = l5;
   j2 = p2;
-  call(code_f85(m, last, j0, i1, j2));
+  call(code_f86(m, last, j0, i1, j2));
   j0 = l3;
   i0 = (u32)(j0);
   i32_load8_u_at(i0, frame, 8);
@@ -75139,7 +75418,7 @@ static void code_f86(uint8_t *const m, const u32 last, u64 p0, u64 p1, u64 p2) {
   return;
 }
 
-static void code_f87(uint8_t *const m, const u32 last, u64 p0, u64 p1) {
+static void code_f88(uint8_t *const m, const u32 last, u64 p0, u64 p1) {
   u64 l2 = 0, l3 = 0, l4 = 0, l5 = 0, l6 = 0, l7 = 0, l8 = 0, l9 = 0, l10 = 0, l11 = 0, l12 = 0, l13 = 0, l14 = 0;
   u32 i0, i1, i2;
   u64 j0, j1, j2;
@@ -75265,7 +75544,7 @@ static void code_f87(uint8_t *const m, const u32 last, u64 p0, u64 p1) {
   j1 = 56ull;
   j0 += j1;
   j1 = l7;
-  call(i0 = code_f92(m, last, j0, j1));
+  call(i0 = code_f93(m, last, j0, j1));
   i0 = !(i0);
   if (i0) {goto B4;}
   j0 = l2;
@@ -75561,7 +75840,7 @@ static void code_f87(uint8_t *const m, const u32 last, u64 p0, u64 p1) {
   j1 = 32ull;
   j0 += j1;
   j1 = l7;
-  call(i0 = code_f91(m, last, j0, j1));
+  call(i0 = code_f92(m, last, j0, j1));
   i0 = !(i0);
   if (i0) {goto B12;}
   j0 = l2;
@@ -75918,7 +76197,7 @@ static void code_f87(uint8_t *const m, const u32 last, u64 p0, u64 p1) {
   return;
 }
 
-static void code_f88(uint8_t *const m, const u32 last, u64 p0, u64 p1, u64 p2) {
+static void code_f89(uint8_t *const m, const u32 last, u64 p0, u64 p1, u64 p2) {
   u32 l4 = 0, l5 = 0, l6 = 0, l7 = 0;
   u64 l3 = 0;
   u32 i0, i1, i2;
@@ -76078,7 +76357,7 @@ static void code_f88(uint8_t *const m, const u32 last, u64 p0, u64 p1, u64 p2) {
   return;
 }
 
-static void code_f89(uint8_t *const m, const u32 last, u64 p0, u64 p1) {
+static void code_f90(uint8_t *const m, const u32 last, u64 p0, u64 p1) {
   u64 l2 = 0, l3 = 0, l4 = 0, l5 = 0, l6 = 0, l7 = 0, l8 = 0;
   u32 i0, i1, i2;
   u64 j0, j1, j2;
@@ -76311,7 +76590,7 @@ static void code_f89(uint8_t *const m, const u32 last, u64 p0, u64 p1) {
   B9:;
   j0 = l2;
   j1 = p1;
-  call(code_f93(m, last, j0, j1));
+  call(code_f94(m, last, j0, j1));
   j0 = l2;
   i0 = (u32)(j0);
   i32_load8_u_at(i0, frame, 0);
@@ -76440,7 +76719,7 @@ static void code_f89(uint8_t *const m, const u32 last, u64 p0, u64 p1) {
   return;
 }
 
-static void code_f90(uint8_t *const m, const u32 last, u64 p0, u64 p1) {
+static void code_f91(uint8_t *const m, const u32 last, u64 p0, u64 p1) {
   u64 l2 = 0, l3 = 0, l4 = 0, l5 = 0, l6 = 0, l7 = 0, l8 = 0, l9 = 0;
   u32 i0, i1, i2, i3;
   u64 j0, j1, j2, j3, j4;
@@ -76637,7 +76916,7 @@ static void code_f90(uint8_t *const m, const u32 last, u64 p0, u64 p1) {
   return;
 }
 
-static u32 code_f91(uint8_t *const m, const u32 last, u64 p0, u64 p1) {
+static u32 code_f92(uint8_t *const m, const u32 last, u64 p0, u64 p1) {
   u32 l6 = 0;
   u64 l2 = 0, l3 = 0, l4 = 0, l5 = 0;
   u32 i0, i1, i2;
@@ -76767,7 +77046,7 @@ static u32 code_f91(uint8_t *const m, const u32 last, u64 p0, u64 p1) {
   return 0;
 }
 
-static u32 code_f92(uint8_t *const m, const u32 last, u64 p0, u64 p1) {
+static u32 code_f93(uint8_t *const m, const u32 last, u64 p0, u64 p1) {
   u32 l6 = 0;
   u64 l2 = 0, l3 = 0, l4 = 0, l5 = 0;
   u32 i0, i1, i2;
@@ -76891,7 +77170,7 @@ static u32 code_f92(uint8_t *const m, const u32 last, u64 p0, u64 p1) {
   return 0;
 }
 
-static void code_f93(uint8_t *const m, const u32 last, u64 p0, u64 p1) {
+static void code_f94(uint8_t *const m, const u32 last, u64 p0, u64 p1) {
   u32 l6 = 0;
   u64 l2 = 0, l3 = 0, l4 = 0, l5 = 0;
   u32 i0, i1, i2;
@@ -77012,7 +77291,7 @@ static void code_f93(uint8_t *const m, const u32 last, u64 p0, u64 p1) {
   return;
 }
 
-static u32 code_f94(uint8_t *const m, const u32 last, u64 p0) {
+static u32 code_f95(uint8_t *const m, const u32 last, u64 p0) {
   u32 l13 = 0, l14 = 0;
   u64 l1 = 0, l2 = 0, l3 = 0, l4 = 0, l5 = 0, l6 = 0, l7 = 0, l8 = 0, l9 = 0, l10 = 0, l11 = 0, l12 = 0;
   u32 i0, i1;
@@ -77319,7 +77598,7 @@ static u32 code_f94(uint8_t *const m, const u32 last, u64 p0) {
     j0 += j1;
     j1 = l2;
     j2 = l3;
-    call(i0 = code_f95(m, last, j0, j1, j2));
+    call(i0 = code_f96(m, last, j0, j1, j2));
     i1 = 255u;
     i0 &= i1;
     i0 = !(i0);
@@ -77481,7 +77760,7 @@ static u32 code_f94(uint8_t *const m, const u32 last, u64 p0) {
   return 0;
 }
 
-static u32 code_f95(uint8_t *const m, const u32 last, u64 p0, u64 p1, u64 p2) {
+static u32 code_f96(uint8_t *const m, const u32 last, u64 p0, u64 p1, u64 p2) {
   u64 l3 = 0, l4 = 0, l5 = 0, l6 = 0, l7 = 0, l8 = 0, l9 = 0, l10 = 0, l11 = 0;
   u32 i0, i1, i2;
   u64 j0, j1, j2, j3;
@@ -77506,7 +77785,7 @@ static u32 code_f95(uint8_t *const m, const u32 last, u64 p0, u64 p1, u64 p2) {
   if (i0) {goto B0;}
   j0 = p0;
   j1 = p2;
-  call(i0 = code_f92(m, last, j0, j1));
+  call(i0 = code_f93(m, last, j0, j1));
   if (i0) {goto B1;}
   i0 = 1u;
   goto Bfunc;
@@ -77702,7 +77981,7 @@ static u32 code_f95(uint8_t *const m, const u32 last, u64 p0, u64 p1, u64 p2) {
   j1 = 24ull;
   j0 += j1;
   j1 = 1ull;
-  call(i0 = code_f91(m, last, j0, j1));
+  call(i0 = code_f92(m, last, j0, j1));
   if (i0) {goto B8;}
   i0 = 1u;
   goto Bfunc;
@@ -77740,7 +78019,7 @@ static u32 code_f95(uint8_t *const m, const u32 last, u64 p0, u64 p1, u64 p2) {
   return 0;
 }
 
-static void code_f96(uint8_t *const m, const u32 last, u64 p0, u64 p1, u64 p2) {
+static void code_f97(uint8_t *const m, const u32 last, u64 p0, u64 p1, u64 p2) {
   u64 l3 = 0, l4 = 0, l5 = 0, l6 = 0, l7 = 0, l8 = 0;
   u32 i0, i1, i2;
   u64 j0, j1, j2, j3;
@@ -77934,7 +78213,7 @@ static void code_f96(uint8_t *const m, const u32 last, u64 p0, u64 p1, u64 p2) {
   i64_load_at(j2, a7, 24);
   i2 = (u32)(j2);
   i64_load(j2, i2, 0);
-  call(i0 = code_f95(m, last, j0, j1, j2));
+  call(i0 = code_f96(m, last, j0, j1, j2));
   i1 = 255u;
   i0 &= i1;
   if (i0) {goto B3;}
@@ -77981,7 +78260,7 @@ static void code_f96(uint8_t *const m, const u32 last, u64 p0, u64 p1, u64 p2) {
     i64_load_at(j2, a8, 8);
     j3 = l8;
     j2 -= j3;
-    call(i0 = code_f95(m, last, j0, j1, j2));
+    call(i0 = code_f96(m, last, j0, j1, j2));
     i1 = 255u;
     i0 &= i1;
     if (i0) {goto B3;}
@@ -78007,7 +78286,7 @@ static void code_f96(uint8_t *const m, const u32 last, u64 p0, u64 p1, u64 p2) {
   i1 = (u32)(j1);
   i32_load8_u(i1, i1, 0);
   j2 = p2;
-  call(code_f85(m, last, j0, i1, j2));
+  call(code_f86(m, last, j0, i1, j2));
   j0 = p0;
   j1 = 8ull;
   j0 += j1;
@@ -78105,7 +78384,7 @@ static void code_f96(uint8_t *const m, const u32 last, u64 p0, u64 p1, u64 p2) {
   return;
 }
 
-static void code_f97(uint8_t *const m, const u32 last, u64 p0, u64 p1, u64 p2) {
+static void code_f98(uint8_t *const m, const u32 last, u64 p0, u64 p1, u64 p2) {
   u32 l4 = 0;
   u64 l3 = 0;
   u32 i0, i1, i2;
@@ -78134,7 +78413,7 @@ static void code_f97(uint8_t *const m, const u32 last, u64 p0, u64 p1, u64 p2) {
   j1 = 80ull;
   j0 += j1;
   j1 = p2;
-  call(code_f87(m, last, j0, j1));
+  call(code_f88(m, last, j0, j1));
   j0 = l3;
   i0 = (u32)(j0);
   i32_load8_u_at(i0, frame, 80);
@@ -78204,7 +78483,7 @@ static void code_f97(uint8_t *const m, const u32 last, u64 p0, u64 p1, u64 p2) {
   j0 += j1;
   j1 = p1;
   j2 = l3;
-  call(code_f98(m, last, j0, j1, j2));
+  call(code_f99(m, last, j0, j1, j2));
   j0 = l3;
   i0 = (u32)(j0);
   i64_load8_u_at(j0, frame, 176);
@@ -78262,7 +78541,7 @@ static void code_f97(uint8_t *const m, const u32 last, u64 p0, u64 p1, u64 p2) {
   return;
 }
 
-static void code_f98(uint8_t *const m, const u32 last, u64 p0, u64 p1, u64 p2) {
+static void code_f99(uint8_t *const m, const u32 last, u64 p0, u64 p1, u64 p2) {
   u32 l28 = 0, l29 = 0, l30 = 0, l31 = 0;
   u64 l3 = 0, l4 = 0, l5 = 0, l6 = 0, l7 = 0, l8 = 0, l9 = 0, l10 = 0, l11 = 0, l12 = 0, l13 = 0, l14 = 0, l15 = 0, l16 = 0, l17 = 0, l18 = 0, l19 = 0, l20 = 0, l21 = 0, l22 = 0, l23 = 0, l24 = 0, l25 = 0, l26 = 0, l27 = 0;
   u32 i0, i1, i2, i3, i4;
@@ -78434,7 +78713,7 @@ static void code_f98(uint8_t *const m, const u32 last, u64 p0, u64 p1, u64 p2) {
   j1 = l3;
   j2 = 392ull;
   j1 += j2;
-  call(code_f87(m, last, j0, j1));
+  call(code_f88(m, last, j0, j1));
   j0 = l3;
   i0 = (u32)(j0);
   i32_load8_u_at(i0, frame, 280);
@@ -78736,7 +79015,7 @@ static void code_f98(uint8_t *const m, const u32 last, u64 p0, u64 p1, u64 p2) {
   j1 = 584ull;
   j0 += j1;
   j1 = p2;
-  call(i0 = code_f99(m, last, j0, j1));
+  call(i0 = code_f100(m, last, j0, j1));
   i0 = !(i0);
   if (i0) {goto B8;}
   B9:;
@@ -78746,7 +79025,7 @@ static void code_f98(uint8_t *const m, const u32 last, u64 p0, u64 p1, u64 p2) {
   j1 = l3;
   j2 = 600ull;
   j1 += j2;
-  call(code_f100(m, last, j0, j1));
+  call(code_f101(m, last, j0, j1));
   j0 = l3;
   i0 = (u32)(j0);
   i32_load8_u_at(i0, frame, 560);
@@ -79384,7 +79663,7 @@ static void code_f98(uint8_t *const m, const u32 last, u64 p0, u64 p1, u64 p2) {
     j0 += j1;
     j1 = l13;
     j2 = p2;
-    call(i0 = code_f95(m, last, j0, j1, j2));
+    call(i0 = code_f96(m, last, j0, j1, j2));
     i1 = 255u;
     i0 &= i1;
     i0 = !(i0);
@@ -79620,7 +79899,7 @@ static void code_f98(uint8_t *const m, const u32 last, u64 p0, u64 p1, u64 p2) {
   j0 = l3;
   j1 = 392ull;
   j0 += j1;
-  call(i0 = code_f94(m, last, j0));
+  call(i0 = code_f95(m, last, j0));
   i1 = 255u;
   i0 &= i1;
   if (i0) {goto B2;}
@@ -80074,7 +80353,7 @@ static void code_f98(uint8_t *const m, const u32 last, u64 p0, u64 p1, u64 p2) {
   return;
 }
 
-static u32 code_f99(uint8_t *const m, const u32 last, u64 p0, u64 p1) {
+static u32 code_f100(uint8_t *const m, const u32 last, u64 p0, u64 p1) {
   u32 i0;
   u64 j0, j1, j2;
   j0 = p0;
@@ -80089,7 +80368,7 @@ static u32 code_f99(uint8_t *const m, const u32 last, u64 p0, u64 p1) {
   return 0;
 }
 
-static void code_f100(uint8_t *const m, const u32 last, u64 p0, u64 p1) {
+static void code_f101(uint8_t *const m, const u32 last, u64 p0, u64 p1) {
   u32 l8 = 0;
   u64 l2 = 0, l3 = 0, l4 = 0, l5 = 0, l6 = 0, l7 = 0;
   u32 i0, i1, i2;
@@ -80344,7 +80623,7 @@ static void code_f100(uint8_t *const m, const u32 last, u64 p0, u64 p1) {
   return;
 }
 
-static void code_f101(uint8_t *const m, const u32 last, u64 p0, u64 p1, u64 p2, u32 p3, u64 p4) {
+static void code_f102(uint8_t *const m, const u32 last, u64 p0, u64 p1, u64 p2, u32 p3, u64 p4) {
   u32 l14 = 0, l15 = 0, l16 = 0;
   u64 l5 = 0, l6 = 0, l7 = 0, l8 = 0, l9 = 0, l10 = 0, l11 = 0, l12 = 0, l13 = 0;
   u32 i0, i1;
@@ -80478,7 +80757,7 @@ static void code_f101(uint8_t *const m, const u32 last, u64 p0, u64 p1, u64 p2, 
     j0 = l5;
     j1 = 112ull;
     j0 += j1;
-    call(i0 = code_f102(m, last, j0));
+    call(i0 = code_f103(m, last, j0));
     i0 = !(i0);
     if (i0) {goto B1;}
     j0 = l5;
@@ -80579,7 +80858,7 @@ static void code_f101(uint8_t *const m, const u32 last, u64 p0, u64 p1, u64 p2, 
   j0 += j1;
   j1 = l5;
   j2 = p4;
-  call(code_f103(m, last, j0, j1, j2));
+  call(code_f104(m, last, j0, j1, j2));
   j0 = p0;
   i0 = (u32)(j0);
   j1 = l5;
@@ -80713,7 +80992,7 @@ static void code_f101(uint8_t *const m, const u32 last, u64 p0, u64 p1, u64 p2, 
   return;
 }
 
-static u32 code_f102(uint8_t *const m, const u32 last, u64 p0) {
+static u32 code_f103(uint8_t *const m, const u32 last, u64 p0) {
   u32 l6 = 0;
   u64 l1 = 0, l2 = 0, l3 = 0, l4 = 0, l5 = 0;
   u32 i0, i1, i2;
@@ -80840,7 +81119,7 @@ static u32 code_f102(uint8_t *const m, const u32 last, u64 p0) {
   return 0;
 }
 
-static void code_f103(uint8_t *const m, const u32 last, u64 p0, u64 p1, u64 p2) {
+static void code_f104(uint8_t *const m, const u32 last, u64 p0, u64 p1, u64 p2) {
   u32 l12 = 0, l13 = 0, l14 = 0, l15 = 0, l16 = 0;
   u64 l3 = 0, l4 = 0, l5 = 0, l6 = 0, l7 = 0, l8 = 0, l9 = 0, l10 = 0, l11 = 0;
   u32 i0, i1, i2, i3, i4;
@@ -80933,7 +81212,7 @@ static void code_f103(uint8_t *const m, const u32 last, u64 p0, u64 p1, u64 p2) 
   if (i0) {goto B5;}
   j0 = l6;
   j1 = l5;
-  call(code_f104(m, last, j0, j1));
+  call(code_f105(m, last, j0, j1));
   goto B4;
   B5:;
   i0 = 0u;
@@ -81209,7 +81488,7 @@ static void code_f103(uint8_t *const m, const u32 last, u64 p0, u64 p1, u64 p2) 
   i3 <<= (i4 & 31);
   i4 = 126u;
   i3 ^= i4;
-  call(code_f105(m, last, j0, j1, j2, i3));
+  call(code_f106(m, last, j0, j1, j2, i3));
   goto B4;
   B17:;
   i0 = l16;
@@ -81228,14 +81507,14 @@ static void code_f103(uint8_t *const m, const u32 last, u64 p0, u64 p1, u64 p2) 
   j2 *= j3;
   j1 += j2;
   j2 = p1;
-  call(code_f106(m, last, j0, j1, j2));
+  call(code_f107(m, last, j0, j1, j2));
   B4:;
   j0 = l8;
   j1 = l9;
   j2 = l6;
   j3 = l5;
   i4 = 0u;
-  call(code_f107(m, last, j0, j1, j2, j3, i4));
+  call(code_f108(m, last, j0, j1, j2, j3, i4));
   j0 = p0;
   j1 = 56ull;
   j0 += j1;
@@ -81349,7 +81628,7 @@ static void code_f103(uint8_t *const m, const u32 last, u64 p0, u64 p1, u64 p2) 
   return;
 }
 
-static void code_f104(uint8_t *const m, const u32 last, u64 p0, u64 p1) {
+static void code_f105(uint8_t *const m, const u32 last, u64 p0, u64 p1) {
   u32 l11 = 0, l12 = 0, l13 = 0, l14 = 0, l15 = 0, l16 = 0;
   u64 l2 = 0, l3 = 0, l4 = 0, l5 = 0, l6 = 0, l7 = 0, l8 = 0, l9 = 0, l10 = 0;
   u32 i0, i1, i2, i3;
@@ -81722,7 +82001,7 @@ static void code_f104(uint8_t *const m, const u32 last, u64 p0, u64 p1) {
   return;
 }
 
-static void code_f105(uint8_t *const m, const u32 last, u64 p0, u64 p1, u64 p2, u32 p3) {
+static void code_f106(uint8_t *const m, const u32 last, u64 p0, u64 p1, u64 p2, u32 p3) {
   u32 l21 = 0, l22 = 0, l23 = 0, l24 = 0, l25 = 0, l26 = 0, l27 = 0, l28 = 0, l29 = 0, l30 = 0;
   u64 l4 = 0, l5 = 0, l6 = 0, l7 = 0, l8 = 0, l9 = 0, l10 = 0, l11 = 0, l12 = 0, l13 = 0, l14 = 0, l15 = 0, l16 = 0, l17 = 0, l18 = 0, l19 = 0, l20 = 0;
   u32 i0, i1, i2, i3, i4;
@@ -81761,7 +82040,7 @@ static void code_f105(uint8_t *const m, const u32 last, u64 p0, u64 p1, u64 p2, 
       j0 = l9;
       j1 = l7;
       j2 = l5;
-      call(code_f108(m, last, j0, j1, j2));
+      call(code_f109(m, last, j0, j1, j2));
       j0 = l7;
       j1 = 18446744073709551615ull;
       j0 += j1;
@@ -81834,7 +82113,7 @@ static void code_f105(uint8_t *const m, const u32 last, u64 p0, u64 p1, u64 p2, 
       j3 = 18446744073709551615ull;
       j2 += j3;
       l5 = j2;
-      call(code_f108(m, last, j0, j1, j2));
+      call(code_f109(m, last, j0, j1, j2));
       j0 = l7;
       j1 = 18446744073709551592ull;
       j0 += j1;
@@ -81869,7 +82148,7 @@ static void code_f105(uint8_t *const m, const u32 last, u64 p0, u64 p1, u64 p2, 
     j1 = p1;
     j2 = l8;
     j3 = l7;
-    call(j0 = code_f109(m, last, j0, j1, j2, j3));
+    call(j0 = code_f110(m, last, j0, j1, j2, j3));
     l9 = j0;
     goto B6;
     B7:;
@@ -81878,7 +82157,7 @@ static void code_f105(uint8_t *const m, const u32 last, u64 p0, u64 p1, u64 p2, 
     j2 = l8;
     j3 = l7;
     j4 = l9;
-    call(j0 = code_f110(m, last, j0, j1, j2, j3, j4));
+    call(j0 = code_f111(m, last, j0, j1, j2, j3, j4));
     l9 = j0;
     B6:;
     i0 = p3;
@@ -83408,7 +83687,7 @@ static void code_f105(uint8_t *const m, const u32 last, u64 p0, u64 p1, u64 p2, 
     j3 = p1;
     j2 += j3;
     i3 = p3;
-    call(code_f105(m, last, j0, j1, j2, i3));
+    call(code_f106(m, last, j0, j1, j2, i3));
     B8:;
     j0 = p2;
     j1 = l9;
@@ -83427,7 +83706,7 @@ static void code_f105(uint8_t *const m, const u32 last, u64 p0, u64 p1, u64 p2, 
   j1 *= j2;
   j0 += j1;
   j1 = l5;
-  call(code_f104(m, last, j0, j1));
+  call(code_f105(m, last, j0, j1));
   B0:;
   j0 = l4;
   j1 = 80ull;
@@ -83439,7 +83718,7 @@ static void code_f105(uint8_t *const m, const u32 last, u64 p0, u64 p1, u64 p2, 
   return;
 }
 
-static void code_f106(uint8_t *const m, const u32 last, u64 p0, u64 p1, u64 p2) {
+static void code_f107(uint8_t *const m, const u32 last, u64 p0, u64 p1, u64 p2) {
   u64 l3 = 0, l4 = 0, l5 = 0, l6 = 0;
   u32 i0, i1;
   u64 j0, j1;
@@ -83522,7 +83801,7 @@ static void code_f106(uint8_t *const m, const u32 last, u64 p0, u64 p1, u64 p2) 
   return;
 }
 
-static void code_f107(uint8_t *const m, const u32 last, u64 p0, u64 p1, u64 p2, u64 p3, u32 p4) {
+static void code_f108(uint8_t *const m, const u32 last, u64 p0, u64 p1, u64 p2, u64 p3, u32 p4) {
   u32 l11 = 0, l12 = 0, l13 = 0, l14 = 0, l15 = 0, l16 = 0, l17 = 0;
   u64 l5 = 0, l6 = 0, l7 = 0, l8 = 0, l9 = 0, l10 = 0;
   u32 i0, i1, i2, i3, i4, i5;
@@ -84090,7 +84369,7 @@ static void code_f107(uint8_t *const m, const u32 last, u64 p0, u64 p1, u64 p2, 
   return;
 }
 
-static void code_f108(uint8_t *const m, const u32 last, u64 p0, u64 p1, u64 p2) {
+static void code_f109(uint8_t *const m, const u32 last, u64 p0, u64 p1, u64 p2) {
   u32 l10 = 0, l11 = 0, l12 = 0, l13 = 0;
   u64 l3 = 0, l4 = 0, l5 = 0, l6 = 0, l7 = 0, l8 = 0, l9 = 0;
   u32 i0, i1, i2, i3, i4, i5;
@@ -84404,7 +84683,7 @@ static void code_f108(uint8_t *const m, const u32 last, u64 p0, u64 p1, u64 p2) 
   return;
 }
 
-static u64 code_f109(uint8_t *const m, const u32 last, u64 p0, u64 p1, u64 p2, u64 p3) {
+static u64 code_f110(uint8_t *const m, const u32 last, u64 p0, u64 p1, u64 p2, u64 p3) {
   u32 l12 = 0, l13 = 0, l14 = 0, l15 = 0, l16 = 0;
   u64 l4 = 0, l5 = 0, l6 = 0, l7 = 0, l8 = 0, l9 = 0, l10 = 0, l11 = 0;
   u32 i0, i1, i2, i3, i4, i5;
@@ -84631,7 +84910,7 @@ static u64 code_f109(uint8_t *const m, const u32 last, u64 p0, u64 p1, u64 p2, u
   return 0;
 }
 
-static u64 code_f110(uint8_t *const m, const u32 last, u64 p0, u64 p1, u64 p2, u64 p3, u64 p4) {
+static u64 code_f111(uint8_t *const m, const u32 last, u64 p0, u64 p1, u64 p2, u64 p3, u64 p4) {
   u64 l5 = 0, l6 = 0;
   u32 i0;
   u64 j0, j1, j2, j3, j4, j5, j6, j7;
@@ -84643,7 +84922,7 @@ static u64 code_f110(uint8_t *const m, const u32 last, u64 p0, u64 p1, u64 p2, u
   j1 = p1;
   j2 = p2;
   j3 = p3;
-  call(j0 = code_f109(m, last, j0, j1, j2, j3));
+  call(j0 = code_f110(m, last, j0, j1, j2, j3));
   goto Bfunc;
   B0:;
   j0 = p0;
@@ -84665,7 +84944,7 @@ static u64 code_f110(uint8_t *const m, const u32 last, u64 p0, u64 p1, u64 p2, u
   j5 = p1;
   j4 += j5;
   j5 = p4;
-  call(j1 = code_f110(m, last, j1, j2, j3, j4, j5));
+  call(j1 = code_f111(m, last, j1, j2, j3, j4, j5));
   j2 = p0;
   j3 = p2;
   j4 = l5;
@@ -84675,7 +84954,7 @@ static u64 code_f110(uint8_t *const m, const u32 last, u64 p0, u64 p1, u64 p2, u
   j6 = p2;
   j5 += j6;
   j6 = p4;
-  call(j2 = code_f110(m, last, j2, j3, j4, j5, j6));
+  call(j2 = code_f111(m, last, j2, j3, j4, j5, j6));
   j3 = p0;
   j4 = p3;
   j5 = l5;
@@ -84685,8 +84964,8 @@ static u64 code_f110(uint8_t *const m, const u32 last, u64 p0, u64 p1, u64 p2, u
   j7 = p3;
   j6 += j7;
   j7 = p4;
-  call(j3 = code_f110(m, last, j3, j4, j5, j6, j7));
-  call(j0 = code_f109(m, last, j0, j1, j2, j3));
+  call(j3 = code_f111(m, last, j3, j4, j5, j6, j7));
+  call(j0 = code_f110(m, last, j0, j1, j2, j3));
   Bfunc:;
   return j0;
   trap:
@@ -84694,7 +84973,7 @@ static u64 code_f110(uint8_t *const m, const u32 last, u64 p0, u64 p1, u64 p2, u
   return 0;
 }
 
-static u32 code_f111(uint8_t *const m, const u32 last, u64 p0, u64 p1) {
+static u32 code_f112(uint8_t *const m, const u32 last, u64 p0, u64 p1) {
   u32 l6 = 0;
   u64 l2 = 0, l3 = 0, l4 = 0, l5 = 0;
   u32 i0, i1, i2;
@@ -84824,7 +85103,7 @@ static u32 code_f111(uint8_t *const m, const u32 last, u64 p0, u64 p1) {
   return 0;
 }
 
-static u32 code_f112(uint8_t *const m, const u32 last, u64 p0, u64 p1, u64 p2, u64 p3, u64 p4) {
+static u32 code_f113(uint8_t *const m, const u32 last, u64 p0, u64 p1, u64 p2, u64 p3, u64 p4) {
   u32 l13 = 0;
   u64 l5 = 0, l6 = 0, l7 = 0, l8 = 0, l9 = 0, l10 = 0, l11 = 0, l12 = 0;
   u32 i0, i1, i2;
@@ -85063,7 +85342,7 @@ static u32 code_f112(uint8_t *const m, const u32 last, u64 p0, u64 p1, u64 p2, u
   l13 = i0;
   j0 = p0;
   j1 = p4;
-  call(i0 = code_f125(m, last, j0, j1));
+  call(i0 = code_f126(m, last, j0, j1));
   i0 = !(i0);
   if (i0) {goto B5;}
   j0 = p0;
@@ -85248,7 +85527,7 @@ static u32 code_f112(uint8_t *const m, const u32 last, u64 p0, u64 p1, u64 p2, u
   return 0;
 }
 
-static u32 code_f113(uint8_t *const m, const u32 last, u64 p0) {
+static u32 code_f114(uint8_t *const m, const u32 last, u64 p0) {
   u32 l6 = 0;
   u64 l1 = 0, l2 = 0, l3 = 0, l4 = 0, l5 = 0;
   u32 i0, i1, i2;
@@ -85375,7 +85654,7 @@ static u32 code_f113(uint8_t *const m, const u32 last, u64 p0) {
   return 0;
 }
 
-static void code_f114(uint8_t *const m, const u32 last, u64 p0, u64 p1, u64 p2, u64 p3, u64 p4, u64 p5) {
+static void code_f115(uint8_t *const m, const u32 last, u64 p0, u64 p1, u64 p2, u64 p3, u64 p4, u64 p5) {
   u64 l6 = 0, l7 = 0, l8 = 0, l9 = 0, l10 = 0, l11 = 0, l12 = 0, l13 = 0, l14 = 0, l15 = 0, l16 = 0, l17 = 0, l18 = 0, l19 = 0, l20 = 0, l21 = 0, l22 = 0, l23 = 0, l24 = 0, l25 = 0;
   u32 i0, i1, i2;
   u64 j0, j1, j2, j3, j4;
@@ -85403,7 +85682,7 @@ static void code_f114(uint8_t *const m, const u32 last, u64 p0, u64 p1, u64 p2, 
   j0 = l6;
   j1 = 216ull;
   j0 += j1;
-  call(i0 = code_f56(m, last, j0));
+  call(i0 = code_f57(m, last, j0));
   if (i0) {goto B1;}
   j0 = l6;
   j1 = 8ull;
@@ -85416,7 +85695,7 @@ static void code_f114(uint8_t *const m, const u32 last, u64 p0, u64 p1, u64 p2, 
   i64_load_at(j2, frame, 32);
   j3 = p2;
   j4 = p3;
-  call(code_f34(m, last, j0, j1, j2, j3, j4));
+  call(code_f35(m, last, j0, j1, j2, j3, j4));
   j0 = l6;
   i0 = (u32)(j0);
   i32_load8_u_at(i0, frame, 8);
@@ -85445,7 +85724,7 @@ static void code_f114(uint8_t *const m, const u32 last, u64 p0, u64 p1, u64 p2, 
   i1 = 0u;
   j2 = p4;
   j3 = p5;
-  call(i0 = code_f126(m, last, j0, i1, j2, j3));
+  call(i0 = code_f127(m, last, j0, i1, j2, j3));
   i1 = 255u;
   i0 &= i1;
   if (i0) {goto B2;}
@@ -85684,7 +85963,7 @@ static void code_f114(uint8_t *const m, const u32 last, u64 p0, u64 p1, u64 p2, 
   return;
 }
 
-static void code_f115(uint8_t *const m, const u32 last, u64 p0, u64 p1, u64 p2) {
+static void code_f116(uint8_t *const m, const u32 last, u64 p0, u64 p1, u64 p2) {
   u32 l15 = 0;
   u64 l3 = 0, l4 = 0, l5 = 0, l6 = 0, l7 = 0, l8 = 0, l9 = 0, l10 = 0, l11 = 0, l12 = 0, l13 = 0, l14 = 0;
   u32 i0, i1, i2, i4;
@@ -85876,7 +86155,7 @@ static void code_f115(uint8_t *const m, const u32 last, u64 p0, u64 p1, u64 p2) 
   i64_load_at(j4, a0, 8);
   j5 = l12;
   j4 -= j5;
-  call(code_f58(m, last, j0, j1, i2, j3, j4));
+  call(code_f59(m, last, j0, j1, i2, j3, j4));
   j0 = l3;
   i0 = (u32)(j0);
   i32_load8_u_at(i0, frame, 0);
@@ -85916,7 +86195,7 @@ static void code_f115(uint8_t *const m, const u32 last, u64 p0, u64 p1, u64 p2) 
   return;
 }
 
-static void code_f116(uint8_t *const m, const u32 last, u64 p0, u64 p1, u32 p2) {
+static void code_f117(uint8_t *const m, const u32 last, u64 p0, u64 p1, u32 p2) {
   u32 l8 = 0, l9 = 0, l10 = 0, l11 = 0, l12 = 0, l13 = 0, l14 = 0;
   u64 l3 = 0, l4 = 0, l5 = 0, l6 = 0, l7 = 0;
   u32 i0, i1, i2, i3, i4;
@@ -85973,7 +86252,7 @@ static void code_f116(uint8_t *const m, const u32 last, u64 p0, u64 p1, u32 p2) 
   i3 = (u32)(j3);
   i64_load_at(j3, a1, 8);
   i4 = p2;
-  call(code_f107(m, last, j0, j1, j2, j3, i4));
+  call(code_f108(m, last, j0, j1, j2, j3, i4));
   j0 = l4;
   i0 = (u32)(j0);
   i1 = p2;
@@ -86039,7 +86318,7 @@ static void code_f116(uint8_t *const m, const u32 last, u64 p0, u64 p1, u32 p2) 
   i3 = (u32)(j3);
   i64_load_at(j3, a3, 8);
   i4 = p2;
-  call(code_f107(m, last, j0, j1, j2, j3, i4));
+  call(code_f108(m, last, j0, j1, j2, j3, i4));
   j0 = l5;
   i0 = (u32)(j0);
   i1 = p2;
@@ -86105,7 +86384,7 @@ static void code_f116(uint8_t *const m, const u32 last, u64 p0, u64 p1, u32 p2) 
   i3 = (u32)(j3);
   i64_load_at(j3, a5, 8);
   i4 = p2;
-  call(code_f107(m, last, j0, j1, j2, j3, i4));
+  call(code_f108(m, last, j0, j1, j2, j3, i4));
   j0 = l6;
   i0 = (u32)(j0);
   i1 = p2;
@@ -86171,7 +86450,7 @@ static void code_f116(uint8_t *const m, const u32 last, u64 p0, u64 p1, u32 p2) 
   i3 = (u32)(j3);
   i64_load_at(j3, a7, 8);
   i4 = p2;
-  call(code_f107(m, last, j0, j1, j2, j3, i4));
+  call(code_f108(m, last, j0, j1, j2, j3, i4));
   j0 = l7;
   i0 = (u32)(j0);
   i1 = p2;
@@ -87630,7 +87909,7 @@ static void code_f116(uint8_t *const m, const u32 last, u64 p0, u64 p1, u32 p2) 
   return;
 }
 
-static void code_f117(uint8_t *const m, const u32 last, u64 p0, u64 p1, u32 p2, u64 p3, u64 p4) {
+static void code_f118(uint8_t *const m, const u32 last, u64 p0, u64 p1, u32 p2, u64 p3, u64 p4) {
   u64 l5 = 0, l6 = 0, l7 = 0, l8 = 0, l9 = 0, l10 = 0, l11 = 0, l12 = 0, l13 = 0, l14 = 0;
   u32 i0, i1, i2, i3;
   u64 j0, j1, j2, j3;
@@ -87638,7 +87917,7 @@ static void code_f117(uint8_t *const m, const u32 last, u64 p0, u64 p1, u32 p2, 
   j0 = p1;
   j1 = 288ull;
   j0 += j1;
-  call(i0 = code_f56(m, last, j0));
+  call(i0 = code_f57(m, last, j0));
   i0 = !(i0);
   if (i0) {goto B2;}
   j0 = p1;
@@ -87708,7 +87987,7 @@ static void code_f117(uint8_t *const m, const u32 last, u64 p0, u64 p1, u32 p2, 
   j1 = 96ull;
   j0 += j1;
   j1 = l6;
-  call(i0 = code_f121(m, last, j0, j1));
+  call(i0 = code_f122(m, last, j0, j1));
   i0 = !(i0);
   if (i0) {goto B3;}
   j0 = p1;
@@ -87913,7 +88192,7 @@ static void code_f117(uint8_t *const m, const u32 last, u64 p0, u64 p1, u32 p2, 
   j1 = 152ull;
   j0 += j1;
   j1 = l6;
-  call(i0 = code_f121(m, last, j0, j1));
+  call(i0 = code_f122(m, last, j0, j1));
   i0 = !(i0);
   if (i0) {goto B3;}
   j0 = p1;
@@ -88150,7 +88429,7 @@ static void code_f117(uint8_t *const m, const u32 last, u64 p0, u64 p1, u32 p2, 
   return;
 }
 
-static void code_f118(uint8_t *const m, const u32 last, u64 p0) {
+static void code_f119(uint8_t *const m, const u32 last, u64 p0) {
   u32 l49 = 0;
   u64 l1 = 0, l2 = 0, l3 = 0, l4 = 0, l5 = 0, l6 = 0, l7 = 0, l8 = 0, l9 = 0, l10 = 0, l11 = 0, l12 = 0, l13 = 0, l14 = 0, l15 = 0, l16 = 0, l17 = 0, l18 = 0, l19 = 0, l20 = 0, l21 = 0, l22 = 0, l23 = 0, l24 = 0, l25 = 0, l26 = 0, l27 = 0, l28 = 0, l29 = 0, l30 = 0, l31 = 0, l32 = 0, l33 = 0, l34 = 0, l35 = 0, l36 = 0, l37 = 0, l38 = 0, l39 = 0, l40 = 0, l41 = 0, l42 = 0, l43 = 0, l44 = 0, l45 = 0, l46 = 0, l47 = 0, l48 = 0;
   u32 i0, i1, i2, i4;
@@ -88608,7 +88887,7 @@ static void code_f118(uint8_t *const m, const u32 last, u64 p0) {
   return;
 }
 
-static void code_f119(uint8_t *const m, const u32 last, u64 p0, u64 p1, u64 p2, u64 p3, u64 p4, u64 p5, u64 p6, u64 p7) {
+static void code_f120(uint8_t *const m, const u32 last, u64 p0, u64 p1, u64 p2, u64 p3, u64 p4, u64 p5, u64 p6, u64 p7) {
   u64 l8 = 0, l9 = 0, l10 = 0, l11 = 0, l12 = 0, l13 = 0, l14 = 0, l15 = 0, l16 = 0, l17 = 0, l18 = 0, l19 = 0, l20 = 0, l21 = 0, l22 = 0, l23 = 0, l24 = 0, l25 = 0;
   u32 i0, i1, i2;
   u64 j0, j1, j2, j3, j4, j5;
@@ -88639,7 +88918,7 @@ static void code_f119(uint8_t *const m, const u32 last, u64 p0, u64 p1, u64 p2, 
   j3 = p3;
   j4 = p4;
   j5 = p5;
-  call(code_f114(m, last, j0, j1, j2, j3, j4, j5));
+  call(code_f115(m, last, j0, j1, j2, j3, j4, j5));
   j0 = l8;
   i0 = (u32)(j0);
   i32_load8_u_at(i0, frame, 376);
@@ -88663,7 +88942,7 @@ static void code_f119(uint8_t *const m, const u32 last, u64 p0, u64 p1, u64 p2, 
   i1 = 1u;
   j2 = p6;
   j3 = p7;
-  call(i0 = code_f126(m, last, j0, i1, j2, j3));
+  call(i0 = code_f127(m, last, j0, i1, j2, j3));
   i1 = 255u;
   i0 &= i1;
   if (i0) {goto B1;}
@@ -88913,7 +89192,7 @@ static void code_f119(uint8_t *const m, const u32 last, u64 p0, u64 p1, u64 p2, 
   return;
 }
 
-static u32 code_f120(uint8_t *const m, const u32 last, u64 p0, u32 p1) {
+static u32 code_f121(uint8_t *const m, const u32 last, u64 p0, u32 p1) {
   u32 l4 = 0, l5 = 0, l6 = 0, l7 = 0;
   u64 l2 = 0, l3 = 0;
   u32 i0, i1, i2, i3, i4;
@@ -89046,7 +89325,7 @@ static u32 code_f120(uint8_t *const m, const u32 last, u64 p0, u32 p1) {
   i3 = (u32)(j3);
   i64_load_at(j3, a1, 8);
   i4 = p1;
-  call(code_f107(m, last, j0, j1, j2, j3, i4));
+  call(code_f108(m, last, j0, j1, j2, j3, i4));
   j0 = l3;
   i0 = (u32)(j0);
   i1 = p1;
@@ -89096,7 +89375,7 @@ static u32 code_f120(uint8_t *const m, const u32 last, u64 p0, u32 p1) {
   return 0;
 }
 
-static u32 code_f121(uint8_t *const m, const u32 last, u64 p0, u64 p1) {
+static u32 code_f122(uint8_t *const m, const u32 last, u64 p0, u64 p1) {
   u32 l6 = 0;
   u64 l2 = 0, l3 = 0, l4 = 0, l5 = 0;
   u32 i0, i1, i2;
@@ -89220,7 +89499,7 @@ static u32 code_f121(uint8_t *const m, const u32 last, u64 p0, u64 p1) {
   return 0;
 }
 
-static void code_f122(uint8_t *const m, const u32 last, u64 p0, u64 p1) {
+static void code_f123(uint8_t *const m, const u32 last, u64 p0, u64 p1) {
   u64 l2 = 0, l3 = 0, l4 = 0;
   u32 i0, i1, i2;
   u64 j0, j1, j2;
@@ -89243,7 +89522,7 @@ static void code_f122(uint8_t *const m, const u32 last, u64 p0, u64 p1) {
   i1 = (u32)(j1);
   reach(a0, i1, 0, 25);
   i64_load_at(j1, a0, 0);
-  call(code_f66(m, last, j0, j1));
+  call(code_f67(m, last, j0, j1));
   j0 = l2;
   j1 = 8ull;
   j0 += j1;
@@ -89269,7 +89548,7 @@ static void code_f122(uint8_t *const m, const u32 last, u64 p0, u64 p1) {
   j1 += j2;
   i1 = (u32)(j1);
   i64_load_at(j1, a0, 8);
-  call(code_f66(m, last, j0, j1));
+  call(code_f67(m, last, j0, j1));
   j0 = l2;
   j1 = 8ull;
   j0 += j1;
@@ -89295,7 +89574,7 @@ static void code_f122(uint8_t *const m, const u32 last, u64 p0, u64 p1) {
   j1 += j2;
   i1 = (u32)(j1);
   i64_load_at(j1, a0, 16);
-  call(code_f66(m, last, j0, j1));
+  call(code_f67(m, last, j0, j1));
   j0 = l2;
   j1 = 8ull;
   j0 += j1;
@@ -89321,7 +89600,7 @@ static void code_f122(uint8_t *const m, const u32 last, u64 p0, u64 p1) {
   j1 += j2;
   i1 = (u32)(j1);
   i64_load_at(j1, a0, 24);
-  call(code_f66(m, last, j0, j1));
+  call(code_f67(m, last, j0, j1));
   j0 = l2;
   j1 = 8ull;
   j0 += j1;
@@ -89368,7 +89647,7 @@ static void code_f122(uint8_t *const m, const u32 last, u64 p0, u64 p1) {
   j1 += j2;
   i1 = (u32)(j1);
   i64_load(j1, i1, 0);
-  call(code_f66(m, last, j0, j1));
+  call(code_f67(m, last, j0, j1));
   j0 = l2;
   i0 = (u32)(j0);
   i64_load_at(j0, frame, 136);
@@ -89396,7 +89675,7 @@ static void code_f122(uint8_t *const m, const u32 last, u64 p0, u64 p1) {
   j1 += j2;
   i1 = (u32)(j1);
   i64_load(j1, i1, 0);
-  call(code_f66(m, last, j0, j1));
+  call(code_f67(m, last, j0, j1));
   j0 = l2;
   j1 = 8ull;
   j0 += j1;
@@ -89433,7 +89712,7 @@ static void code_f122(uint8_t *const m, const u32 last, u64 p0, u64 p1) {
   return;
 }
 
-static void code_f123(uint8_t *const m, const u32 last, u64 p0, u64 p1) {
+static void code_f124(uint8_t *const m, const u32 last, u64 p0, u64 p1) {
   u64 l2 = 0, l3 = 0, l4 = 0;
   u32 i0, i1, i2, i4;
   u64 j0, j1, j2, j3, j4, j5;
@@ -89464,7 +89743,7 @@ static void code_f123(uint8_t *const m, const u32 last, u64 p0, u64 p1) {
   i1 = (u32)(j1);
   reach(a0, i1, 0, 8);
   i64_load_at(j1, a0, 0);
-  call(code_f66(m, last, j0, j1));
+  call(code_f67(m, last, j0, j1));
   j0 = l2;
   j1 = 8ull;
   j0 += j1;
@@ -89490,7 +89769,7 @@ static void code_f123(uint8_t *const m, const u32 last, u64 p0, u64 p1) {
   j1 += j2;
   i1 = (u32)(j1);
   i64_load_at(j1, a0, 8);
-  call(code_f66(m, last, j0, j1));
+  call(code_f67(m, last, j0, j1));
   j0 = l2;
   j1 = 8ull;
   j0 += j1;
@@ -89550,7 +89829,7 @@ static void code_f123(uint8_t *const m, const u32 last, u64 p0, u64 p1) {
   j2 = 1051501ull;
   j3 = 8ull;
   j4 = 0ull;
-  call(code_f127(m, last, j0, j1, j2, j3, j4));
+  call(code_f128(m, last, j0, j1, j2, j3, j4));
   goto B3;
   B5:;
   j0 = l2;
@@ -89564,7 +89843,7 @@ static void code_f123(uint8_t *const m, const u32 last, u64 p0, u64 p1) {
   j4 += j5;
   i4 = (u32)(j4);
   i64_load8_u(j4, i4, 0);
-  call(code_f127(m, last, j0, j1, j2, j3, j4));
+  call(code_f128(m, last, j0, j1, j2, j3, j4));
   goto B3;
   B4:;
   j0 = p1;
@@ -89587,7 +89866,7 @@ static void code_f123(uint8_t *const m, const u32 last, u64 p0, u64 p1) {
   j2 = 1051512ull;
   j3 = 5ull;
   j4 = l4;
-  call(code_f127(m, last, j0, j1, j2, j3, j4));
+  call(code_f128(m, last, j0, j1, j2, j3, j4));
   goto B3;
   B7:;
   j0 = l2;
@@ -89597,7 +89876,7 @@ static void code_f123(uint8_t *const m, const u32 last, u64 p0, u64 p1) {
   j2 = 1051517ull;
   j3 = 5ull;
   j4 = l4;
-  call(code_f127(m, last, j0, j1, j2, j3, j4));
+  call(code_f128(m, last, j0, j1, j2, j3, j4));
   B3:;
   j0 = p0;
   i0 = (u32)(j0);
@@ -89618,7 +89897,7 @@ static void code_f123(uint8_t *const m, const u32 last, u64 p0, u64 p1) {
   return;
 }
 
-static void code_f124(uint8_t *const m, const u32 last, u64 p0, u64 p1) {
+static void code_f125(uint8_t *const m, const u32 last, u64 p0, u64 p1) {
   u64 l2 = 0, l3 = 0, l4 = 0, l5 = 0, l6 = 0, l7 = 0, l8 = 0, l9 = 0, l10 = 0, l11 = 0, l12 = 0, l13 = 0, l14 = 0, l15 = 0, l16 = 0, l17 = 0, l18 = 0, l19 = 0, l20 = 0, l21 = 0, l22 = 0, l23 = 0;
   u32 i0, i1, i2;
   u64 j0, j1, j2;
@@ -89831,7 +90110,7 @@ static void code_f124(uint8_t *const m, const u32 last, u64 p0, u64 p1) {
   return;
 }
 
-static u32 code_f125(uint8_t *const m, const u32 last, u64 p0, u64 p1) {
+static u32 code_f126(uint8_t *const m, const u32 last, u64 p0, u64 p1) {
   u32 l6 = 0;
   u64 l2 = 0, l3 = 0, l4 = 0, l5 = 0;
   u32 i0, i1, i2;
@@ -89955,7 +90234,7 @@ static u32 code_f125(uint8_t *const m, const u32 last, u64 p0, u64 p1) {
   return 0;
 }
 
-static u32 code_f126(uint8_t *const m, const u32 last, u64 p0, u32 p1, u64 p2, u64 p3) {
+static u32 code_f127(uint8_t *const m, const u32 last, u64 p0, u32 p1, u64 p2, u64 p3) {
   u64 l4 = 0, l5 = 0, l6 = 0, l7 = 0, l8 = 0, l9 = 0, l10 = 0;
   u32 i0, i1, i2, i3;
   u64 j0, j1, j2, j3;
@@ -89966,7 +90245,7 @@ static u32 code_f126(uint8_t *const m, const u32 last, u64 p0, u32 p1, u64 p2, u
   j0 = p0;
   j1 = 224ull;
   j0 += j1;
-  call(i0 = code_f56(m, last, j0));
+  call(i0 = code_f57(m, last, j0));
   i0 = !(i0);
   if (i0) {goto B2;}
   j0 = p0;
@@ -90412,14 +90691,14 @@ static u32 code_f126(uint8_t *const m, const u32 last, u64 p0, u32 p1, u64 p2, u
   return 0;
 }
 
-static void code_f127(uint8_t *const m, const u32 last, u64 p0, u64 p1, u64 p2, u64 p3, u64 p4) {
+static void code_f128(uint8_t *const m, const u32 last, u64 p0, u64 p1, u64 p2, u64 p3, u64 p4) {
   u64 l5 = 0, l6 = 0;
   u32 i0, i1, i2;
   u64 j0, j1, j2;
   uint8_t *a0, *a1, *a2;
   j0 = p0;
   j1 = p1;
-  call(code_f66(m, last, j0, j1));
+  call(code_f67(m, last, j0, j1));
   j0 = p0;
   j1 = p0;
   j2 = 128ull;
@@ -90441,7 +90720,7 @@ static void code_f127(uint8_t *const m, const u32 last, u64 p0, u64 p1, u64 p2, 
   i64_store_at(j1, a0, 0);
   j0 = p0;
   j1 = p1;
-  call(code_f66(m, last, j0, j1));
+  call(code_f67(m, last, j0, j1));
   j0 = p0;
   j1 = l5;
   i1 = (u32)(j1);
@@ -90570,7 +90849,7 @@ static void code_f127(uint8_t *const m, const u32 last, u64 p0, u64 p1, u64 p2, 
   i64_store_at(j1, a0, 0);
   j0 = p0;
   j1 = p4;
-  call(code_f66(m, last, j0, j1));
+  call(code_f67(m, last, j0, j1));
   j0 = p0;
   j1 = p3;
   i1 = (u32)(j1);
@@ -90592,7 +90871,7 @@ static void code_f127(uint8_t *const m, const u32 last, u64 p0, u64 p1, u64 p2, 
   return;
 }
 
-static void code_f128(uint8_t *const m, const u32 last, u64 p0, u64 p1, u64 p2) {
+static void code_f129(uint8_t *const m, const u32 last, u64 p0, u64 p1, u64 p2) {
   u32 l31 = 0, l32 = 0, l33 = 0, l34 = 0, l35 = 0, l36 = 0, l37 = 0, l38 = 0, l39 = 0, l40 = 0;
   u64 l3 = 0, l4 = 0, l5 = 0, l6 = 0, l7 = 0, l8 = 0, l9 = 0, l10 = 0, l11 = 0, l12 = 0, l13 = 0, l14 = 0, l15 = 0, l16 = 0, l17 = 0, l18 = 0, l19 = 0, l20 = 0, l21 = 0, l22 = 0, l23 = 0, l24 = 0, l25 = 0, l26 = 0, l27 = 0, l28 = 0, l29 = 0, l30 = 0;
   u32 i0, i1, i2, i3, i4, i5;
@@ -90680,7 +90959,7 @@ static void code_f128(uint8_t *const m, const u32 last, u64 p0, u64 p1, u64 p2) 
   j5 = 2152ull;
   j4 += j5;
   l6 = j4;
-  call(code_f129(m, last, j0, j1, j2, j3, j4));
+  call(code_f130(m, last, j0, j1, j2, j3, j4));
   j0 = l3;
   i0 = (u32)(j0);
   i32_load_at(i0, frame, 2656);
@@ -90757,7 +91036,7 @@ static void code_f128(uint8_t *const m, const u32 last, u64 p0, u64 p1, u64 p2) 
     j2 = 1784ull;
     j1 += j2;
     i2 = l31;
-    call(code_f116(m, last, j0, j1, i2));
+    call(code_f117(m, last, j0, j1, i2));
     j0 = l3;
     i0 = (u32)(j0);
     j1 = l3;
@@ -90797,7 +91076,7 @@ static void code_f128(uint8_t *const m, const u32 last, u64 p0, u64 p1, u64 p2) 
     j2 += j3;
     i3 = l32;
     j4 = l9;
-    call(code_f35(m, last, j0, j1, j2, i3, j4));
+    call(code_f36(m, last, j0, j1, j2, i3, j4));
     j0 = l3;
     i0 = (u32)(j0);
     i64_load_at(j0, frame, 2184);
@@ -91013,7 +91292,7 @@ static void code_f128(uint8_t *const m, const u32 last, u64 p0, u64 p1, u64 p2) 
       i2 = 0u;
       j3 = l4;
       j4 = l5;
-      call(code_f117(m, last, j0, j1, i2, j3, j4));
+      call(code_f118(m, last, j0, j1, i2, j3, j4));
       j0 = l3;
       i0 = (u32)(j0);
       i32_load8_u_at(i0, frame, 8);
@@ -91049,7 +91328,7 @@ static void code_f128(uint8_t *const m, const u32 last, u64 p0, u64 p1, u64 p2) 
     i3 = (u32)(j3);
     i64_load_at(j3, frame, 1536);
     j4 = l6;
-    call(code_f129(m, last, j0, j1, j2, j3, j4));
+    call(code_f130(m, last, j0, j1, j2, j3, j4));
     j0 = l3;
     i0 = (u32)(j0);
     i32_load_at(i0, frame, 2656);
@@ -91085,7 +91364,7 @@ static void code_f128(uint8_t *const m, const u32 last, u64 p0, u64 p1, u64 p2) 
   j0 = l3;
   j1 = 568ull;
   j0 += j1;
-  call(code_f118(m, last, j0));
+  call(code_f119(m, last, j0));
   i0 = 1u;
   l33 = i0;
   i0 = 7u;
@@ -91117,7 +91396,7 @@ static void code_f128(uint8_t *const m, const u32 last, u64 p0, u64 p1, u64 p2) 
   j0 = l3;
   j1 = 568ull;
   j0 += j1;
-  call(code_f118(m, last, j0));
+  call(code_f119(m, last, j0));
   goto B5;
   B30:;
   j0 = l3;
@@ -91205,7 +91484,7 @@ static void code_f128(uint8_t *const m, const u32 last, u64 p0, u64 p1, u64 p2) 
       j2 = 1440ull;
       j1 += j2;
       j2 = p2;
-      call(code_f130(m, last, j0, j1, j2));
+      call(code_f131(m, last, j0, j1, j2));
       i0 = 1u;
       l34 = i0;
       j0 = l3;
@@ -91336,7 +91615,7 @@ static void code_f128(uint8_t *const m, const u32 last, u64 p0, u64 p1, u64 p2) 
       j2 = 1440ull;
       j1 += j2;
       j2 = p2;
-      call(code_f130(m, last, j0, j1, j2));
+      call(code_f131(m, last, j0, j1, j2));
       i0 = 1u;
       l34 = i0;
       j0 = l3;
@@ -91412,7 +91691,7 @@ static void code_f128(uint8_t *const m, const u32 last, u64 p0, u64 p1, u64 p2) 
     j1 = l3;
     i1 = (u32)(j1);
     i32_load_at(i1, frame, 1568);
-    call(i0 = code_f120(m, last, j0, i1));
+    call(i0 = code_f121(m, last, j0, i1));
     l32 = i0;
     j0 = l3;
     i0 = (u32)(j0);
@@ -91729,7 +92008,7 @@ static void code_f128(uint8_t *const m, const u32 last, u64 p0, u64 p1, u64 p2) 
         j1 = 96ull;
         j0 += j1;
         j1 = l6;
-        call(i0 = code_f121(m, last, j0, j1));
+        call(i0 = code_f122(m, last, j0, j1));
         i0 = !(i0);
         if (i0) {goto B72;}
         j0 = p2;
@@ -92025,7 +92304,7 @@ static void code_f128(uint8_t *const m, const u32 last, u64 p0, u64 p1, u64 p2) 
   j0 = l3;
   j1 = 568ull;
   j0 += j1;
-  call(code_f118(m, last, j0));
+  call(code_f119(m, last, j0));
   i0 = 0u;
   l31 = i0;
   goto B6;
@@ -92078,7 +92357,7 @@ static void code_f128(uint8_t *const m, const u32 last, u64 p0, u64 p1, u64 p2) 
     i2 = 0u;
     j3 = l4;
     j4 = p1;
-    call(code_f117(m, last, j0, j1, i2, j3, j4));
+    call(code_f118(m, last, j0, j1, i2, j3, j4));
     i0 = 1u;
     l33 = i0;
     i0 = 6u;
@@ -92172,7 +92451,7 @@ static void code_f128(uint8_t *const m, const u32 last, u64 p0, u64 p1, u64 p2) 
     j2 = 1400ull;
     j1 += j2;
     i2 = l32;
-    call(code_f116(m, last, j0, j1, i2));
+    call(code_f117(m, last, j0, j1, i2));
     j0 = l3;
     i0 = (u32)(j0);
     i32_load8_u_at(i0, frame, 2650);
@@ -92203,7 +92482,7 @@ static void code_f128(uint8_t *const m, const u32 last, u64 p0, u64 p1, u64 p2) 
     B82:;
     j0 = l14;
     i1 = l32;
-    call(i0 = code_f120(m, last, j0, i1));
+    call(i0 = code_f121(m, last, j0, i1));
     l38 = i0;
     j0 = l3;
     i0 = (u32)(j0);
@@ -92600,7 +92879,7 @@ static void code_f128(uint8_t *const m, const u32 last, u64 p0, u64 p1, u64 p2) 
     j1 = l3;
     j2 = 2416ull;
     j1 += j2;
-    call(i0 = code_f131(m, last, j0, j1));
+    call(i0 = code_f132(m, last, j0, j1));
     i1 = 255u;
     i0 &= i1;
     if (i0) {goto B101;}
@@ -92638,7 +92917,7 @@ static void code_f128(uint8_t *const m, const u32 last, u64 p0, u64 p1, u64 p2) 
   j1 = l3;
   j2 = 2280ull;
   j1 += j2;
-  call(i0 = code_f131(m, last, j0, j1));
+  call(i0 = code_f132(m, last, j0, j1));
   i1 = 255u;
   i0 &= i1;
   if (i0) {goto B78;}
@@ -92699,7 +92978,7 @@ static void code_f128(uint8_t *const m, const u32 last, u64 p0, u64 p1, u64 p2) 
   j1 = 568ull;
   j0 += j1;
   j1 = p1;
-  call(code_f66(m, last, j0, j1));
+  call(code_f67(m, last, j0, j1));
   j0 = l3;
   i0 = (u32)(j0);
   i64_load_at(j0, frame, 696);
@@ -92723,7 +93002,7 @@ static void code_f128(uint8_t *const m, const u32 last, u64 p0, u64 p1, u64 p2) 
   j1 = 568ull;
   j0 += j1;
   j1 = l5;
-  call(code_f66(m, last, j0, j1));
+  call(code_f67(m, last, j0, j1));
   j0 = l3;
   j1 = 568ull;
   j0 += j1;
@@ -92791,7 +93070,7 @@ static void code_f128(uint8_t *const m, const u32 last, u64 p0, u64 p1, u64 p2) 
   j1 = 2648ull;
   j0 += j1;
   j1 = l4;
-  call(code_f66(m, last, j0, j1));
+  call(code_f67(m, last, j0, j1));
   j0 = l3;
   j1 = 2648ull;
   j0 += j1;
@@ -92813,7 +93092,7 @@ static void code_f128(uint8_t *const m, const u32 last, u64 p0, u64 p1, u64 p2) 
   j1 = 2648ull;
   j0 += j1;
   j1 = p1;
-  call(code_f66(m, last, j0, j1));
+  call(code_f67(m, last, j0, j1));
   j0 = l3;
   j1 = 2648ull;
   j0 += j1;
@@ -92847,7 +93126,7 @@ static void code_f128(uint8_t *const m, const u32 last, u64 p0, u64 p1, u64 p2) 
     i2 = 0u;
     j3 = l4;
     j4 = p1;
-    call(code_f117(m, last, j0, j1, i2, j3, j4));
+    call(code_f118(m, last, j0, j1, i2, j3, j4));
     j0 = l3;
     i0 = (u32)(j0);
     i32_load8_u_at(i0, frame, 536);
@@ -93333,7 +93612,7 @@ static void code_f128(uint8_t *const m, const u32 last, u64 p0, u64 p1, u64 p2) 
     i2 = 0u;
     j3 = l4;
     j4 = p1;
-    call(code_f117(m, last, j0, j1, i2, j3, j4));
+    call(code_f118(m, last, j0, j1, i2, j3, j4));
     j0 = l3;
     i0 = (u32)(j0);
     i32_load8_u_at(i0, frame, 520);
@@ -93371,7 +93650,7 @@ static void code_f128(uint8_t *const m, const u32 last, u64 p0, u64 p1, u64 p2) 
     i2 = 1u;
     j3 = p1;
     j4 = l4;
-    call(code_f117(m, last, j0, j1, i2, j3, j4));
+    call(code_f118(m, last, j0, j1, i2, j3, j4));
     j0 = l3;
     i0 = (u32)(j0);
     i32_load8_u_at(i0, frame, 504);
@@ -93413,7 +93692,7 @@ static void code_f128(uint8_t *const m, const u32 last, u64 p0, u64 p1, u64 p2) 
   j5 = 1480ull;
   j4 += j5;
   l18 = j4;
-  call(code_f129(m, last, j0, j1, j2, j3, j4));
+  call(code_f130(m, last, j0, j1, j2, j3, j4));
   j0 = l3;
   i0 = (u32)(j0);
   i32_load_at(i0, frame, 576);
@@ -93793,7 +94072,7 @@ static void code_f128(uint8_t *const m, const u32 last, u64 p0, u64 p1, u64 p2) 
     i1 = l31;
     j1 = (u64)(i1);
     l19 = j1;
-    call(code_f132(m, last, j0, j1));
+    call(code_f133(m, last, j0, j1));
     j0 = l3;
     i0 = (u32)(j0);
     i64_load_at(j0, frame, 1520);
@@ -93819,7 +94098,7 @@ static void code_f128(uint8_t *const m, const u32 last, u64 p0, u64 p1, u64 p2) 
       i2 = 0u;
       j3 = l4;
       j4 = p1;
-      call(code_f117(m, last, j0, j1, i2, j3, j4));
+      call(code_f118(m, last, j0, j1, i2, j3, j4));
       j0 = l3;
       i0 = (u32)(j0);
       i32_load8_u_at(i0, frame, 472);
@@ -94040,7 +94319,7 @@ static void code_f128(uint8_t *const m, const u32 last, u64 p0, u64 p1, u64 p2) 
       j4 = 0ull;
       i3 = (u64)((s64)j3 < (s64)j4);
       j1 = i3 ? j1 : j2;
-      call(code_f132(m, last, j0, j1));
+      call(code_f133(m, last, j0, j1));
       j0 = l10;
       j1 = 18446744073709551615ull;
       i0 = (u64)((s64)j0 > (s64)j1);
@@ -94099,7 +94378,7 @@ static void code_f128(uint8_t *const m, const u32 last, u64 p0, u64 p1, u64 p2) 
       j4 = 0ull;
       i3 = (u64)((s64)j3 < (s64)j4);
       j1 = i3 ? j1 : j2;
-      call(code_f132(m, last, j0, j1));
+      call(code_f133(m, last, j0, j1));
       j0 = l10;
       j1 = 18446744073709551615ull;
       i0 = (u64)((s64)j0 > (s64)j1);
@@ -94152,7 +94431,7 @@ static void code_f128(uint8_t *const m, const u32 last, u64 p0, u64 p1, u64 p2) 
       j4 = 0ull;
       i3 = (u64)((s64)j3 < (s64)j4);
       j1 = i3 ? j1 : j2;
-      call(code_f132(m, last, j0, j1));
+      call(code_f133(m, last, j0, j1));
       j0 = l4;
       j1 = 18446744073709551615ull;
       i0 = (u64)((s64)j0 > (s64)j1);
@@ -94353,7 +94632,7 @@ static void code_f128(uint8_t *const m, const u32 last, u64 p0, u64 p1, u64 p2) 
       i32_store8(i1, i0, 0);
       j0 = l8;
       j1 = l19;
-      call(code_f132(m, last, j0, j1));
+      call(code_f133(m, last, j0, j1));
       j0 = 1ull;
       l12 = j0;
       j0 = l3;
@@ -94381,7 +94660,7 @@ static void code_f128(uint8_t *const m, const u32 last, u64 p0, u64 p1, u64 p2) 
         i2 = 1u;
         j3 = l4;
         j4 = p1;
-        call(code_f117(m, last, j0, j1, i2, j3, j4));
+        call(code_f118(m, last, j0, j1, i2, j3, j4));
         j0 = l3;
         i0 = (u32)(j0);
         i32_load8_u_at(i0, frame, 456);
@@ -94449,7 +94728,7 @@ static void code_f128(uint8_t *const m, const u32 last, u64 p0, u64 p1, u64 p2) 
     j2 = p2;
     j3 = p1;
     j4 = l18;
-    call(code_f129(m, last, j0, j1, j2, j3, j4));
+    call(code_f130(m, last, j0, j1, j2, j3, j4));
     j0 = l3;
     i0 = (u32)(j0);
     i32_load_at(i0, frame, 576);
@@ -94493,7 +94772,7 @@ static void code_f128(uint8_t *const m, const u32 last, u64 p0, u64 p1, u64 p2) 
   i32_store8(i1, i0, 0);
   j0 = l8;
   j1 = l4;
-  call(code_f132(m, last, j0, j1));
+  call(code_f133(m, last, j0, j1));
   j0 = l3;
   i0 = (u32)(j0);
   j1 = l3;
@@ -94513,7 +94792,7 @@ static void code_f128(uint8_t *const m, const u32 last, u64 p0, u64 p1, u64 p2) 
   i32_store8(i1, i0, 0);
   j0 = l8;
   j1 = p1;
-  call(code_f132(m, last, j0, j1));
+  call(code_f133(m, last, j0, j1));
   j0 = l3;
   i0 = (u32)(j0);
   j1 = l3;
@@ -94570,7 +94849,7 @@ static void code_f128(uint8_t *const m, const u32 last, u64 p0, u64 p1, u64 p2) 
     i2 = 1u;
     j3 = l4;
     j4 = p1;
-    call(code_f117(m, last, j0, j1, i2, j3, j4));
+    call(code_f118(m, last, j0, j1, i2, j3, j4));
     j0 = l3;
     i0 = (u32)(j0);
     i32_load8_u_at(i0, frame, 488);
@@ -94789,7 +95068,7 @@ static void code_f128(uint8_t *const m, const u32 last, u64 p0, u64 p1, u64 p2) 
     i2 = 1u;
     j3 = l4;
     j4 = p1;
-    call(code_f117(m, last, j0, j1, i2, j3, j4));
+    call(code_f118(m, last, j0, j1, i2, j3, j4));
     j0 = l3;
     i0 = (u32)(j0);
     i32_load8_u_at(i0, frame, 440);
@@ -94881,7 +95160,7 @@ static void code_f128(uint8_t *const m, const u32 last, u64 p0, u64 p1, u64 p2) 
       j2 = 1440ull;
       j1 += j2;
       j2 = p2;
-      call(code_f130(m, last, j0, j1, j2));
+      call(code_f131(m, last, j0, j1, j2));
       j0 = l3;
       i0 = (u32)(j0);
       i32_load8_u_at(i0, frame, 424);
@@ -95014,7 +95293,7 @@ static void code_f128(uint8_t *const m, const u32 last, u64 p0, u64 p1, u64 p2) 
       j2 = 1440ull;
       j1 += j2;
       j2 = p2;
-      call(code_f130(m, last, j0, j1, j2));
+      call(code_f131(m, last, j0, j1, j2));
       j0 = l3;
       i0 = (u32)(j0);
       i32_load8_u_at(i0, frame, 408);
@@ -95792,7 +96071,7 @@ static void code_f128(uint8_t *const m, const u32 last, u64 p0, u64 p1, u64 p2) 
     if (i0) {goto B193;}
     j0 = l20;
     j1 = p2;
-    call(i0 = code_f133(m, last, j0, j1));
+    call(i0 = code_f134(m, last, j0, j1));
     i1 = 255u;
     i0 &= i1;
     i0 = !(i0);
@@ -95872,7 +96151,7 @@ static void code_f128(uint8_t *const m, const u32 last, u64 p0, u64 p1, u64 p2) 
     j2 = 1440ull;
     j1 += j2;
     j2 = p2;
-    call(code_f130(m, last, j0, j1, j2));
+    call(code_f131(m, last, j0, j1, j2));
     j0 = l3;
     i0 = (u32)(j0);
     i32_load8_u_at(i0, frame, 392);
@@ -95905,7 +96184,7 @@ static void code_f128(uint8_t *const m, const u32 last, u64 p0, u64 p1, u64 p2) 
     if (i0) {goto B217;}
     j0 = p1;
     j1 = p2;
-    call(i0 = code_f133(m, last, j0, j1));
+    call(i0 = code_f134(m, last, j0, j1));
     i1 = 255u;
     i0 &= i1;
     i0 = !(i0);
@@ -95917,7 +96196,7 @@ static void code_f128(uint8_t *const m, const u32 last, u64 p0, u64 p1, u64 p2) 
   j1 = l3;
   j2 = 2096ull;
   j1 += j2;
-  call(i0 = code_f134(m, last, j0, j1));
+  call(i0 = code_f135(m, last, j0, j1));
   i1 = 255u;
   i0 &= i1;
   if (i0) {goto B216;}
@@ -95956,7 +96235,7 @@ static void code_f128(uint8_t *const m, const u32 last, u64 p0, u64 p1, u64 p2) 
   j1 = 568ull;
   j0 += j1;
   j1 = p1;
-  call(code_f66(m, last, j0, j1));
+  call(code_f67(m, last, j0, j1));
   j0 = l3;
   j1 = 568ull;
   j0 += j1;
@@ -96003,7 +96282,7 @@ static void code_f128(uint8_t *const m, const u32 last, u64 p0, u64 p1, u64 p2) 
     i2 = 1u;
     j3 = l4;
     j4 = p1;
-    call(code_f117(m, last, j0, j1, i2, j3, j4));
+    call(code_f118(m, last, j0, j1, i2, j3, j4));
     j0 = l3;
     i0 = (u32)(j0);
     i32_load8_u_at(i0, frame, 376);
@@ -96205,7 +96484,7 @@ static void code_f128(uint8_t *const m, const u32 last, u64 p0, u64 p1, u64 p2) 
   j0 = l3;
   j1 = 2416ull;
   j0 += j1;
-  call(code_f71(m, last, j0));
+  call(code_f72(m, last, j0));
   j0 = l19;
   i0 = !(j0);
   if (i0) {goto B222;}
@@ -96366,7 +96645,7 @@ static void code_f128(uint8_t *const m, const u32 last, u64 p0, u64 p1, u64 p2) 
     i2 = 1u;
     j3 = l4;
     j4 = p1;
-    call(code_f117(m, last, j0, j1, i2, j3, j4));
+    call(code_f118(m, last, j0, j1, i2, j3, j4));
     j0 = l3;
     i0 = (u32)(j0);
     i32_load8_u_at(i0, frame, 360);
@@ -96397,7 +96676,7 @@ static void code_f128(uint8_t *const m, const u32 last, u64 p0, u64 p1, u64 p2) 
     i2 = 1u;
     j3 = l4;
     j4 = p1;
-    call(code_f117(m, last, j0, j1, i2, j3, j4));
+    call(code_f118(m, last, j0, j1, i2, j3, j4));
     j0 = l3;
     i0 = (u32)(j0);
     i32_load8_u_at(i0, frame, 344);
@@ -96480,7 +96759,7 @@ static void code_f128(uint8_t *const m, const u32 last, u64 p0, u64 p1, u64 p2) 
       j2 = 1440ull;
       j1 += j2;
       j2 = p2;
-      call(code_f130(m, last, j0, j1, j2));
+      call(code_f131(m, last, j0, j1, j2));
       j0 = l3;
       i0 = (u32)(j0);
       i32_load8_u_at(i0, frame, 328);
@@ -96604,7 +96883,7 @@ static void code_f128(uint8_t *const m, const u32 last, u64 p0, u64 p1, u64 p2) 
       j2 = 1440ull;
       j1 += j2;
       j2 = p2;
-      call(code_f130(m, last, j0, j1, j2));
+      call(code_f131(m, last, j0, j1, j2));
       j0 = 0ull;
       l4 = j0;
       j0 = l3;
@@ -97125,7 +97404,7 @@ static void code_f128(uint8_t *const m, const u32 last, u64 p0, u64 p1, u64 p2) 
     j1 = l3;
     j2 = 2600ull;
     j1 += j2;
-    call(code_f123(m, last, j0, j1));
+    call(code_f124(m, last, j0, j1));
     j0 = l3;
     j1 = 2648ull;
     j0 += j1;
@@ -97142,7 +97421,7 @@ static void code_f128(uint8_t *const m, const u32 last, u64 p0, u64 p1, u64 p2) 
     j2 = l3;
     j3 = 2648ull;
     j2 += j3;
-    call(i0 = code_f135(m, last, j0, i1, j2));
+    call(i0 = code_f136(m, last, j0, i1, j2));
     i1 = 255u;
     i0 &= i1;
     if (i0) {goto B238;}
@@ -97152,7 +97431,7 @@ static void code_f128(uint8_t *const m, const u32 last, u64 p0, u64 p1, u64 p2) 
     j1 = l3;
     j2 = 2552ull;
     j1 += j2;
-    call(code_f123(m, last, j0, j1));
+    call(code_f124(m, last, j0, j1));
     j0 = l3;
     j1 = 2416ull;
     j0 += j1;
@@ -97169,7 +97448,7 @@ static void code_f128(uint8_t *const m, const u32 last, u64 p0, u64 p1, u64 p2) 
     j2 = l3;
     j3 = 2416ull;
     j2 += j3;
-    call(i0 = code_f135(m, last, j0, i1, j2));
+    call(i0 = code_f136(m, last, j0, i1, j2));
     i1 = 255u;
     i0 &= i1;
     l32 = i0;
@@ -97482,7 +97761,7 @@ static void code_f128(uint8_t *const m, const u32 last, u64 p0, u64 p1, u64 p2) 
       i2 = 0u;
       j3 = l4;
       j4 = p1;
-      call(code_f117(m, last, j0, j1, i2, j3, j4));
+      call(code_f118(m, last, j0, j1, i2, j3, j4));
       j0 = l3;
       i0 = (u32)(j0);
       i32_load8_u_at(i0, frame, 312);
@@ -97596,7 +97875,7 @@ static void code_f128(uint8_t *const m, const u32 last, u64 p0, u64 p1, u64 p2) 
   j0 = l3;
   j1 = 2256ull;
   j0 += j1;
-  call(code_f70(m, last, j0));
+  call(code_f71(m, last, j0));
   j0 = l3;
   i0 = (u32)(j0);
   i64_load_at(j0, frame, 1568);
@@ -97636,7 +97915,7 @@ static void code_f128(uint8_t *const m, const u32 last, u64 p0, u64 p1, u64 p2) 
     j2 = 1440ull;
     j1 += j2;
     j2 = p2;
-    call(code_f130(m, last, j0, j1, j2));
+    call(code_f131(m, last, j0, j1, j2));
     j0 = l3;
     i0 = (u32)(j0);
     i32_load8_u_at(i0, frame, 280);
@@ -97695,7 +97974,7 @@ static void code_f128(uint8_t *const m, const u32 last, u64 p0, u64 p1, u64 p2) 
     i1 = (u32)(j1);
     reach(a46, i1, 0, 16);
     i64_load_at(j1, a46, 0);
-    call(code_f66(m, last, j0, j1));
+    call(code_f67(m, last, j0, j1));
     j0 = l3;
     j1 = 568ull;
     j0 += j1;
@@ -97721,7 +98000,7 @@ static void code_f128(uint8_t *const m, const u32 last, u64 p0, u64 p1, u64 p2) 
     j1 += j2;
     i1 = (u32)(j1);
     i64_load_at(j1, a46, 8);
-    call(code_f66(m, last, j0, j1));
+    call(code_f67(m, last, j0, j1));
     j0 = l3;
     j1 = 568ull;
     j0 += j1;
@@ -97745,7 +98024,7 @@ static void code_f128(uint8_t *const m, const u32 last, u64 p0, u64 p1, u64 p2) 
     j1 = p1;
     i1 = (u32)(j1);
     i64_load_at(j1, a46, 16);
-    call(code_f66(m, last, j0, j1));
+    call(code_f67(m, last, j0, j1));
     j0 = l3;
     j1 = 568ull;
     j0 += j1;
@@ -97785,7 +98064,7 @@ static void code_f128(uint8_t *const m, const u32 last, u64 p0, u64 p1, u64 p2) 
     j2 = l3;
     j3 = 2648ull;
     j2 += j3;
-    call(i0 = code_f135(m, last, j0, i1, j2));
+    call(i0 = code_f136(m, last, j0, i1, j2));
     i1 = 255u;
     i0 &= i1;
     if (i0) {goto B239;}
@@ -97840,7 +98119,7 @@ static void code_f128(uint8_t *const m, const u32 last, u64 p0, u64 p1, u64 p2) 
   j1 = 2280ull;
   j0 += j1;
   j1 = l4;
-  call(code_f66(m, last, j0, j1));
+  call(code_f67(m, last, j0, j1));
   j0 = l3;
   j1 = 2280ull;
   j0 += j1;
@@ -97887,7 +98166,7 @@ static void code_f128(uint8_t *const m, const u32 last, u64 p0, u64 p1, u64 p2) 
     i2 = 1u;
     j3 = l5;
     j4 = l4;
-    call(code_f117(m, last, j0, j1, i2, j3, j4));
+    call(code_f118(m, last, j0, j1, i2, j3, j4));
     j0 = l3;
     i0 = (u32)(j0);
     i32_load8_u_at(i0, frame, 264);
@@ -97987,7 +98266,7 @@ static void code_f128(uint8_t *const m, const u32 last, u64 p0, u64 p1, u64 p2) 
   j0 = l3;
   j1 = 2232ull;
   j0 += j1;
-  call(code_f70(m, last, j0));
+  call(code_f71(m, last, j0));
   j0 = l3;
   i0 = (u32)(j0);
   i64_load_at(j0, frame, 1568);
@@ -98043,7 +98322,7 @@ static void code_f128(uint8_t *const m, const u32 last, u64 p0, u64 p1, u64 p2) 
     i2 = 0u;
     j3 = p1;
     j4 = l6;
-    call(code_f117(m, last, j0, j1, i2, j3, j4));
+    call(code_f118(m, last, j0, j1, i2, j3, j4));
     j0 = l3;
     i0 = (u32)(j0);
     i32_load8_u_at(i0, frame, 248);
@@ -98171,7 +98450,7 @@ static void code_f128(uint8_t *const m, const u32 last, u64 p0, u64 p1, u64 p2) 
       j2 = 1440ull;
       j1 += j2;
       j2 = p2;
-      call(code_f130(m, last, j0, j1, j2));
+      call(code_f131(m, last, j0, j1, j2));
       i0 = 1u;
       l34 = i0;
       j0 = l3;
@@ -98312,7 +98591,7 @@ static void code_f128(uint8_t *const m, const u32 last, u64 p0, u64 p1, u64 p2) 
       j2 = 1440ull;
       j1 += j2;
       j2 = p2;
-      call(code_f130(m, last, j0, j1, j2));
+      call(code_f131(m, last, j0, j1, j2));
       i0 = 1u;
       l34 = i0;
       j0 = l3;
@@ -98657,7 +98936,7 @@ static void code_f128(uint8_t *const m, const u32 last, u64 p0, u64 p1, u64 p2) 
     j1 = 568ull;
     j0 += j1;
     j1 = l4;
-    call(code_f66(m, last, j0, j1));
+    call(code_f67(m, last, j0, j1));
     j0 = l3;
     j1 = 568ull;
     j0 += j1;
@@ -98679,7 +98958,7 @@ static void code_f128(uint8_t *const m, const u32 last, u64 p0, u64 p1, u64 p2) 
     j1 = 568ull;
     j0 += j1;
     j1 = l5;
-    call(code_f66(m, last, j0, j1));
+    call(code_f67(m, last, j0, j1));
     j0 = l3;
     j1 = 568ull;
     j0 += j1;
@@ -98731,7 +99010,7 @@ static void code_f128(uint8_t *const m, const u32 last, u64 p0, u64 p1, u64 p2) 
     j1 = 568ull;
     j0 += j1;
     j1 = l12;
-    call(code_f66(m, last, j0, j1));
+    call(code_f67(m, last, j0, j1));
     i0 = l32;
     switch (i0) {
       case 1: goto B327;
@@ -98791,7 +99070,7 @@ static void code_f128(uint8_t *const m, const u32 last, u64 p0, u64 p1, u64 p2) 
     j1 = 568ull;
     j0 += j1;
     j1 = l14;
-    call(code_f66(m, last, j0, j1));
+    call(code_f67(m, last, j0, j1));
     j0 = l3;
     j1 = 568ull;
     j0 += j1;
@@ -99008,7 +99287,7 @@ static void code_f128(uint8_t *const m, const u32 last, u64 p0, u64 p1, u64 p2) 
     j1 = 568ull;
     j0 += j1;
     j1 = l14;
-    call(code_f66(m, last, j0, j1));
+    call(code_f67(m, last, j0, j1));
     j0 = l3;
     j1 = 568ull;
     j0 += j1;
@@ -99097,7 +99376,7 @@ static void code_f128(uint8_t *const m, const u32 last, u64 p0, u64 p1, u64 p2) 
     j1 = 568ull;
     j0 += j1;
     j1 = l14;
-    call(code_f66(m, last, j0, j1));
+    call(code_f67(m, last, j0, j1));
     j0 = l3;
     j1 = 568ull;
     j0 += j1;
@@ -99179,7 +99458,7 @@ static void code_f128(uint8_t *const m, const u32 last, u64 p0, u64 p1, u64 p2) 
     j1 = 568ull;
     j0 += j1;
     j1 = l5;
-    call(code_f66(m, last, j0, j1));
+    call(code_f67(m, last, j0, j1));
     j0 = l3;
     j1 = 568ull;
     j0 += j1;
@@ -99245,7 +99524,7 @@ static void code_f128(uint8_t *const m, const u32 last, u64 p0, u64 p1, u64 p2) 
     j1 = 568ull;
     j0 += j1;
     j1 = l5;
-    call(code_f66(m, last, j0, j1));
+    call(code_f67(m, last, j0, j1));
     j0 = l3;
     j1 = 568ull;
     j0 += j1;
@@ -99304,7 +99583,7 @@ static void code_f128(uint8_t *const m, const u32 last, u64 p0, u64 p1, u64 p2) 
       i2 = 0u;
       j3 = l4;
       j4 = p1;
-      call(code_f117(m, last, j0, j1, i2, j3, j4));
+      call(code_f118(m, last, j0, j1, i2, j3, j4));
       j0 = l3;
       i0 = (u32)(j0);
       i32_load8_u_at(i0, frame, 216);
@@ -99342,7 +99621,7 @@ static void code_f128(uint8_t *const m, const u32 last, u64 p0, u64 p1, u64 p2) 
     i3 = (u32)(j3);
     i64_load_at(j3, frame, 1600);
     j4 = 1051544ull;
-    call(i0 = code_f136(m, last, j0, j1, j2, j3, j4));
+    call(i0 = code_f137(m, last, j0, j1, j2, j3, j4));
     i1 = 255u;
     i0 &= i1;
     if (i0) {goto B350;}
@@ -99351,7 +99630,7 @@ static void code_f128(uint8_t *const m, const u32 last, u64 p0, u64 p1, u64 p2) 
     j2 = l12;
     j3 = l6;
     j4 = 1051544ull;
-    call(i0 = code_f137(m, last, j0, j1, j2, j3, j4));
+    call(i0 = code_f138(m, last, j0, j1, j2, j3, j4));
     i1 = 255u;
     i0 &= i1;
     if (i0) {goto B350;}
@@ -99364,7 +99643,7 @@ static void code_f128(uint8_t *const m, const u32 last, u64 p0, u64 p1, u64 p2) 
     i3 = (u32)(j3);
     i64_load_at(j3, frame, 1568);
     j4 = 1051251ull;
-    call(i0 = code_f136(m, last, j0, j1, j2, j3, j4));
+    call(i0 = code_f137(m, last, j0, j1, j2, j3, j4));
     i1 = 255u;
     i0 &= i1;
     i0 = !(i0);
@@ -99393,7 +99672,7 @@ static void code_f128(uint8_t *const m, const u32 last, u64 p0, u64 p1, u64 p2) 
     j2 = l12;
     j3 = l6;
     j4 = 1051251ull;
-    call(i0 = code_f137(m, last, j0, j1, j2, j3, j4));
+    call(i0 = code_f138(m, last, j0, j1, j2, j3, j4));
     i1 = 255u;
     i0 &= i1;
     i0 = !(i0);
@@ -99465,7 +99744,7 @@ static void code_f128(uint8_t *const m, const u32 last, u64 p0, u64 p1, u64 p2) 
     j2 = 1440ull;
     j1 += j2;
     j2 = p2;
-    call(code_f130(m, last, j0, j1, j2));
+    call(code_f131(m, last, j0, j1, j2));
     j0 = l3;
     i0 = (u32)(j0);
     i32_load8_u_at(i0, frame, 184);
@@ -99505,7 +99784,7 @@ static void code_f128(uint8_t *const m, const u32 last, u64 p0, u64 p1, u64 p2) 
   i1 = (u32)(j1);
   i64_load_at(j1, frame, 2008);
   l5 = j1;
-  call(code_f66(m, last, j0, j1));
+  call(code_f67(m, last, j0, j1));
   j0 = l3;
   j1 = 568ull;
   j0 += j1;
@@ -99530,7 +99809,7 @@ static void code_f128(uint8_t *const m, const u32 last, u64 p0, u64 p1, u64 p2) 
   i1 = (u32)(j1);
   i64_load_at(j1, frame, 2016);
   l12 = j1;
-  call(code_f66(m, last, j0, j1));
+  call(code_f67(m, last, j0, j1));
   j0 = l3;
   j1 = 568ull;
   j0 += j1;
@@ -99555,7 +99834,7 @@ static void code_f128(uint8_t *const m, const u32 last, u64 p0, u64 p1, u64 p2) 
   i1 = (u32)(j1);
   i64_load_at(j1, frame, 2024);
   p1 = j1;
-  call(code_f66(m, last, j0, j1));
+  call(code_f67(m, last, j0, j1));
   j0 = l3;
   j1 = 568ull;
   j0 += j1;
@@ -99604,7 +99883,7 @@ static void code_f128(uint8_t *const m, const u32 last, u64 p0, u64 p1, u64 p2) 
     i2 = 0u;
     j3 = p1;
     j4 = l4;
-    call(code_f117(m, last, j0, j1, i2, j3, j4));
+    call(code_f118(m, last, j0, j1, i2, j3, j4));
     j0 = l3;
     i0 = (u32)(j0);
     i32_load8_u_at(i0, frame, 168);
@@ -99915,7 +100194,7 @@ static void code_f128(uint8_t *const m, const u32 last, u64 p0, u64 p1, u64 p2) 
     i2 = 1u;
     j3 = l4;
     j4 = p1;
-    call(code_f117(m, last, j0, j1, i2, j3, j4));
+    call(code_f118(m, last, j0, j1, i2, j3, j4));
     j0 = l3;
     i0 = (u32)(j0);
     i32_load8_u_at(i0, frame, 152);
@@ -99998,7 +100277,7 @@ static void code_f128(uint8_t *const m, const u32 last, u64 p0, u64 p1, u64 p2) 
       j2 = 1440ull;
       j1 += j2;
       j2 = p2;
-      call(code_f130(m, last, j0, j1, j2));
+      call(code_f131(m, last, j0, j1, j2));
       i0 = 1u;
       l34 = i0;
       j0 = l3;
@@ -100139,7 +100418,7 @@ static void code_f128(uint8_t *const m, const u32 last, u64 p0, u64 p1, u64 p2) 
       j2 = 1440ull;
       j1 += j2;
       j2 = p2;
-      call(code_f130(m, last, j0, j1, j2));
+      call(code_f131(m, last, j0, j1, j2));
       i0 = 1u;
       l34 = i0;
       j0 = l3;
@@ -100508,7 +100787,7 @@ static void code_f128(uint8_t *const m, const u32 last, u64 p0, u64 p1, u64 p2) 
     j3 = 568ull;
     j2 += j3;
     j3 = l13;
-    call(i0 = code_f138(m, last, j0, j1, j2, j3));
+    call(i0 = code_f139(m, last, j0, j1, j2, j3));
     i1 = 255u;
     i0 &= i1;
     i0 = !(i0);
@@ -100575,7 +100854,7 @@ static void code_f128(uint8_t *const m, const u32 last, u64 p0, u64 p1, u64 p2) 
     j2 = 1440ull;
     j1 += j2;
     j2 = p2;
-    call(code_f130(m, last, j0, j1, j2));
+    call(code_f131(m, last, j0, j1, j2));
     j0 = l3;
     i0 = (u32)(j0);
     i32_load8_u_at(i0, frame, 104);
@@ -100596,7 +100875,7 @@ static void code_f128(uint8_t *const m, const u32 last, u64 p0, u64 p1, u64 p2) 
   j1 = l3;
   j2 = 2008ull;
   j1 += j2;
-  call(i0 = code_f134(m, last, j0, j1));
+  call(i0 = code_f135(m, last, j0, j1));
   i1 = 255u;
   i0 &= i1;
   if (i0) {goto B380;}
@@ -100871,7 +101150,7 @@ static void code_f128(uint8_t *const m, const u32 last, u64 p0, u64 p1, u64 p2) 
     j2 = 1440ull;
     j1 += j2;
     j2 = p2;
-    call(code_f130(m, last, j0, j1, j2));
+    call(code_f131(m, last, j0, j1, j2));
     j0 = l3;
     i0 = (u32)(j0);
     i32_load8_u_at(i0, frame, 56);
@@ -100904,7 +101183,7 @@ static void code_f128(uint8_t *const m, const u32 last, u64 p0, u64 p1, u64 p2) 
     i2 = 1u;
     j3 = l4;
     j4 = p1;
-    call(code_f117(m, last, j0, j1, i2, j3, j4));
+    call(code_f118(m, last, j0, j1, i2, j3, j4));
     j0 = l3;
     i0 = (u32)(j0);
     i32_load8_u_at(i0, frame, 40);
@@ -100927,7 +101206,7 @@ static void code_f128(uint8_t *const m, const u32 last, u64 p0, u64 p1, u64 p2) 
   j1 = 568ull;
   j0 += j1;
   j1 = l12;
-  call(code_f122(m, last, j0, j1));
+  call(code_f123(m, last, j0, j1));
   j0 = l3;
   i0 = (u32)(j0);
   i64_load_at(j0, frame, 696);
@@ -100946,7 +101225,7 @@ static void code_f128(uint8_t *const m, const u32 last, u64 p0, u64 p1, u64 p2) 
     i2 = 1u;
     j3 = l4;
     j4 = p1;
-    call(code_f117(m, last, j0, j1, i2, j3, j4));
+    call(code_f118(m, last, j0, j1, i2, j3, j4));
     j0 = l3;
     i0 = (u32)(j0);
     i32_load8_u_at(i0, frame, 24);
@@ -101157,7 +101436,7 @@ static void code_f128(uint8_t *const m, const u32 last, u64 p0, u64 p1, u64 p2) 
   return;
 }
 
-static void code_f129(uint8_t *const m, const u32 last, u64 p0, u64 p1, u64 p2, u64 p3, u64 p4) {
+static void code_f130(uint8_t *const m, const u32 last, u64 p0, u64 p1, u64 p2, u64 p3, u64 p4) {
   u32 l9 = 0, l10 = 0;
   u64 l5 = 0, l6 = 0, l7 = 0, l8 = 0;
   u32 i0, i1, i2;
@@ -101204,7 +101483,7 @@ static void code_f129(uint8_t *const m, const u32 last, u64 p0, u64 p1, u64 p2, 
     j0 = l5;
     j1 = p1;
     j2 = p2;
-    call(code_f130(m, last, j0, j1, j2));
+    call(code_f131(m, last, j0, j1, j2));
     j0 = l5;
     i0 = (u32)(j0);
     i32_load8_u_at(i0, frame, 0);
@@ -101351,7 +101630,7 @@ static void code_f129(uint8_t *const m, const u32 last, u64 p0, u64 p1, u64 p2, 
   return;
 }
 
-static void code_f130(uint8_t *const m, const u32 last, u64 p0, u64 p1, u64 p2) {
+static void code_f131(uint8_t *const m, const u32 last, u64 p0, u64 p1, u64 p2) {
   u32 l15 = 0;
   u64 l3 = 0, l4 = 0, l5 = 0, l6 = 0, l7 = 0, l8 = 0, l9 = 0, l10 = 0, l11 = 0, l12 = 0, l13 = 0, l14 = 0;
   u32 i0, i1, i2, i4;
@@ -101543,7 +101822,7 @@ static void code_f130(uint8_t *const m, const u32 last, u64 p0, u64 p1, u64 p2) 
   i64_load_at(j4, a0, 8);
   j5 = l12;
   j4 -= j5;
-  call(code_f58(m, last, j0, j1, i2, j3, j4));
+  call(code_f59(m, last, j0, j1, i2, j3, j4));
   j0 = l3;
   i0 = (u32)(j0);
   i32_load8_u_at(i0, frame, 0);
@@ -101583,7 +101862,7 @@ static void code_f130(uint8_t *const m, const u32 last, u64 p0, u64 p1, u64 p2) 
   return;
 }
 
-static u32 code_f131(uint8_t *const m, const u32 last, u64 p0, u64 p1) {
+static u32 code_f132(uint8_t *const m, const u32 last, u64 p0, u64 p1) {
   u32 l5 = 0;
   u64 l2 = 0, l3 = 0, l4 = 0;
   u32 i0, i1, i2;
@@ -101635,7 +101914,7 @@ static u32 code_f131(uint8_t *const m, const u32 last, u64 p0, u64 p1) {
   j1 = 296ull;
   j0 += j1;
   j1 = p1;
-  call(code_f66(m, last, j0, j1));
+  call(code_f67(m, last, j0, j1));
   j0 = l2;
   j1 = 296ull;
   j0 += j1;
@@ -101657,7 +101936,7 @@ static u32 code_f131(uint8_t *const m, const u32 last, u64 p0, u64 p1) {
   j1 = 296ull;
   j0 += j1;
   j1 = l4;
-  call(code_f66(m, last, j0, j1));
+  call(code_f67(m, last, j0, j1));
   j0 = l2;
   j1 = 296ull;
   j0 += j1;
@@ -101737,7 +102016,7 @@ static u32 code_f131(uint8_t *const m, const u32 last, u64 p0, u64 p1) {
     i2 = 0u;
     j3 = l3;
     j4 = p1;
-    call(code_f117(m, last, j0, j1, i2, j3, j4));
+    call(code_f118(m, last, j0, j1, i2, j3, j4));
     j0 = l2;
     i0 = (u32)(j0);
     i32_load8_u_at(i0, frame, 8);
@@ -101773,7 +102052,7 @@ static u32 code_f131(uint8_t *const m, const u32 last, u64 p0, u64 p1) {
   return 0;
 }
 
-static void code_f132(uint8_t *const m, const u32 last, u64 p0, u64 p1) {
+static void code_f133(uint8_t *const m, const u32 last, u64 p0, u64 p1) {
   u32 l7 = 0, l8 = 0;
   u64 l2 = 0, l3 = 0, l4 = 0, l5 = 0, l6 = 0;
   u32 i0, i1, i2, i3;
@@ -101960,7 +102239,7 @@ static void code_f132(uint8_t *const m, const u32 last, u64 p0, u64 p1) {
   return;
 }
 
-static u32 code_f133(uint8_t *const m, const u32 last, u64 p0, u64 p1) {
+static u32 code_f134(uint8_t *const m, const u32 last, u64 p0, u64 p1) {
   u32 l14 = 0, l15 = 0, l16 = 0, l17 = 0, l18 = 0, l19 = 0, l20 = 0, l21 = 0;
   u64 l2 = 0, l3 = 0, l4 = 0, l5 = 0, l6 = 0, l7 = 0, l8 = 0, l9 = 0, l10 = 0, l11 = 0, l12 = 0, l13 = 0;
   u32 i0, i1, i2;
@@ -102602,7 +102881,7 @@ static u32 code_f133(uint8_t *const m, const u32 last, u64 p0, u64 p1) {
   j3 = p0;
   j4 = 104ull;
   j3 += j4;
-  call(i0 = code_f138(m, last, j0, j1, j2, j3));
+  call(i0 = code_f139(m, last, j0, j1, j2, j3));
   l16 = i0;
   j0 = l2;
   j1 = 48ull;
@@ -102617,7 +102896,7 @@ static u32 code_f133(uint8_t *const m, const u32 last, u64 p0, u64 p1) {
   return 0;
 }
 
-static u32 code_f134(uint8_t *const m, const u32 last, u64 p0, u64 p1) {
+static u32 code_f135(uint8_t *const m, const u32 last, u64 p0, u64 p1) {
   u32 l5 = 0;
   u64 l2 = 0, l3 = 0, l4 = 0;
   u32 i0, i1, i2;
@@ -102649,7 +102928,7 @@ static u32 code_f134(uint8_t *const m, const u32 last, u64 p0, u64 p1) {
   i1 = (u32)(j1);
   reach(a1, i1, 0, 16);
   i64_load_at(j1, a1, 0);
-  call(code_f66(m, last, j0, j1));
+  call(code_f67(m, last, j0, j1));
   j0 = l2;
   j1 = 152ull;
   j0 += j1;
@@ -102675,7 +102954,7 @@ static u32 code_f134(uint8_t *const m, const u32 last, u64 p0, u64 p1) {
   j1 += j2;
   i1 = (u32)(j1);
   i64_load_at(j1, a1, 8);
-  call(code_f66(m, last, j0, j1));
+  call(code_f67(m, last, j0, j1));
   j0 = l2;
   j1 = 152ull;
   j0 += j1;
@@ -102701,7 +102980,7 @@ static u32 code_f134(uint8_t *const m, const u32 last, u64 p0, u64 p1) {
   j1 += j2;
   i1 = (u32)(j1);
   i64_load_at(j1, a1, 16);
-  call(code_f66(m, last, j0, j1));
+  call(code_f67(m, last, j0, j1));
   j0 = l2;
   j1 = 152ull;
   j0 += j1;
@@ -102748,7 +103027,7 @@ static u32 code_f134(uint8_t *const m, const u32 last, u64 p0, u64 p1) {
     i2 = 1u;
     j3 = l3;
     j4 = p1;
-    call(code_f117(m, last, j0, j1, i2, j3, j4));
+    call(code_f118(m, last, j0, j1, i2, j3, j4));
     j0 = l2;
     i0 = (u32)(j0);
     i32_load8_u_at(i0, frame, 0);
@@ -102782,7 +103061,7 @@ static u32 code_f134(uint8_t *const m, const u32 last, u64 p0, u64 p1) {
   return 0;
 }
 
-static u32 code_f135(uint8_t *const m, const u32 last, u64 p0, u32 p1, u64 p2) {
+static u32 code_f136(uint8_t *const m, const u32 last, u64 p0, u32 p1, u64 p2) {
   u64 l3 = 0, l4 = 0, l5 = 0, l6 = 0, l7 = 0;
   u32 i0, i1, i2;
   u64 j0, j1, j2, j3, j4;
@@ -102813,7 +103092,7 @@ static u32 code_f135(uint8_t *const m, const u32 last, u64 p0, u32 p1, u64 p2) {
   j1 = (u64)(i1);
   j2 = 65535ull;
   j1 &= j2;
-  call(code_f66(m, last, j0, j1));
+  call(code_f67(m, last, j0, j1));
   j0 = l3;
   j1 = 312ull;
   j0 += j1;
@@ -102873,7 +103152,7 @@ static u32 code_f135(uint8_t *const m, const u32 last, u64 p0, u32 p1, u64 p2) {
     i2 = 1u;
     j3 = l6;
     j4 = l5;
-    call(code_f117(m, last, j0, j1, i2, j3, j4));
+    call(code_f118(m, last, j0, j1, i2, j3, j4));
     j0 = l3;
     i0 = (u32)(j0);
     i32_load8_u_at(i0, frame, 24);
@@ -102903,7 +103182,7 @@ static u32 code_f135(uint8_t *const m, const u32 last, u64 p0, u32 p1, u64 p2) {
     i2 = 1u;
     j3 = p2;
     j4 = l4;
-    call(code_f117(m, last, j0, j1, i2, j3, j4));
+    call(code_f118(m, last, j0, j1, i2, j3, j4));
     j0 = l3;
     i0 = (u32)(j0);
     i32_load8_u_at(i0, frame, 8);
@@ -102937,7 +103216,7 @@ static u32 code_f135(uint8_t *const m, const u32 last, u64 p0, u32 p1, u64 p2) {
   return 0;
 }
 
-static u32 code_f136(uint8_t *const m, const u32 last, u64 p0, u64 p1, u64 p2, u64 p3, u64 p4) {
+static u32 code_f137(uint8_t *const m, const u32 last, u64 p0, u64 p1, u64 p2, u64 p3, u64 p4) {
   u32 l15 = 0;
   u64 l5 = 0, l6 = 0, l7 = 0, l8 = 0, l9 = 0, l10 = 0, l11 = 0, l12 = 0, l13 = 0, l14 = 0;
   u32 i0, i1, i2, i3;
@@ -103253,7 +103532,7 @@ static u32 code_f136(uint8_t *const m, const u32 last, u64 p0, u64 p1, u64 p2, u
     i2 = 0u;
     j3 = l12;
     j4 = l13;
-    call(code_f117(m, last, j0, j1, i2, j3, j4));
+    call(code_f118(m, last, j0, j1, i2, j3, j4));
     j0 = l5;
     i0 = (u32)(j0);
     i32_load8_u_at(i0, frame, 16);
@@ -103288,7 +103567,7 @@ static u32 code_f136(uint8_t *const m, const u32 last, u64 p0, u64 p1, u64 p2, u
     i2 = 0u;
     j3 = p4;
     j4 = l12;
-    call(code_f117(m, last, j0, j1, i2, j3, j4));
+    call(code_f118(m, last, j0, j1, i2, j3, j4));
     j0 = l5;
     i0 = (u32)(j0);
     i32_load8_u_at(i0, frame, 0);
@@ -103324,7 +103603,7 @@ static u32 code_f136(uint8_t *const m, const u32 last, u64 p0, u64 p1, u64 p2, u
   return 0;
 }
 
-static u32 code_f137(uint8_t *const m, const u32 last, u64 p0, u64 p1, u64 p2, u64 p3, u64 p4) {
+static u32 code_f138(uint8_t *const m, const u32 last, u64 p0, u64 p1, u64 p2, u64 p3, u64 p4) {
   u32 l6 = 0;
   u64 l5 = 0;
   u32 i0, i1, i2, i3;
@@ -103360,7 +103639,7 @@ static u32 code_f137(uint8_t *const m, const u32 last, u64 p0, u64 p1, u64 p2, u
     i2 = 0u;
     j3 = p2;
     j4 = p3;
-    call(code_f117(m, last, j0, j1, i2, j3, j4));
+    call(code_f118(m, last, j0, j1, i2, j3, j4));
     j0 = l5;
     i0 = (u32)(j0);
     i32_load8_u_at(i0, frame, 16);
@@ -103394,7 +103673,7 @@ static u32 code_f137(uint8_t *const m, const u32 last, u64 p0, u64 p1, u64 p2, u
     i2 = 0u;
     j3 = p4;
     j4 = p3;
-    call(code_f117(m, last, j0, j1, i2, j3, j4));
+    call(code_f118(m, last, j0, j1, i2, j3, j4));
     j0 = l5;
     i0 = (u32)(j0);
     i32_load8_u_at(i0, frame, 0);
@@ -103435,7 +103714,7 @@ static u32 code_f137(uint8_t *const m, const u32 last, u64 p0, u64 p1, u64 p2, u
   i3 = (u32)(j3);
   i64_load_at(j3, a1, 8);
   j4 = p4;
-  call(i0 = code_f136(m, last, j0, j1, j2, j3, j4));
+  call(i0 = code_f137(m, last, j0, j1, j2, j3, j4));
   i1 = 255u;
   i0 &= i1;
   l6 = i0;
@@ -103451,7 +103730,7 @@ static u32 code_f137(uint8_t *const m, const u32 last, u64 p0, u64 p1, u64 p2, u
   return 0;
 }
 
-static u32 code_f138(uint8_t *const m, const u32 last, u64 p0, u64 p1, u64 p2, u64 p3) {
+static u32 code_f139(uint8_t *const m, const u32 last, u64 p0, u64 p1, u64 p2, u64 p3) {
   u32 l13 = 0;
   u64 l4 = 0, l5 = 0, l6 = 0, l7 = 0, l8 = 0, l9 = 0, l10 = 0, l11 = 0, l12 = 0;
   u32 i0, i1, i2;
@@ -103488,7 +103767,7 @@ static u32 code_f138(uint8_t *const m, const u32 last, u64 p0, u64 p1, u64 p2, u
   j1 = 168ull;
   j0 += j1;
   j1 = p2;
-  call(code_f123(m, last, j0, j1));
+  call(code_f124(m, last, j0, j1));
   j0 = l4;
   j1 = 32ull;
   j0 += j1;
@@ -103518,7 +103797,7 @@ static u32 code_f138(uint8_t *const m, const u32 last, u64 p0, u64 p1, u64 p2, u
     i2 = 1u;
     j3 = l6;
     j4 = l5;
-    call(code_f117(m, last, j0, j1, i2, j3, j4));
+    call(code_f118(m, last, j0, j1, i2, j3, j4));
     j0 = l4;
     i0 = (u32)(j0);
     i32_load8_u_at(i0, frame, 16);
@@ -103800,7 +104079,7 @@ static u32 code_f138(uint8_t *const m, const u32 last, u64 p0, u64 p1, u64 p2, u
     i2 = 0u;
     j3 = l7;
     j4 = p3;
-    call(code_f117(m, last, j0, j1, i2, j3, j4));
+    call(code_f118(m, last, j0, j1, i2, j3, j4));
     j0 = l4;
     i0 = (u32)(j0);
     i32_load8_u_at(i0, frame, 0);
@@ -103836,7 +104115,7 @@ static u32 code_f138(uint8_t *const m, const u32 last, u64 p0, u64 p1, u64 p2, u
   return 0;
 }
 
-static void code_f139(uint8_t *const m, const u32 last, u64 p0) {
+static void code_f140(uint8_t *const m, const u32 last, u64 p0) {
   u64 l1 = 0, l2 = 0, l3 = 0, l4 = 0, l5 = 0, l6 = 0, l7 = 0, l8 = 0, l9 = 0, l10 = 0, l11 = 0, l12 = 0, l13 = 0, l14 = 0, l15 = 0, l16 = 0, l17 = 0, l18 = 0, l19 = 0, l20 = 0, l21 = 0, l22 = 0, l23 = 0, l24 = 0, l25 = 0, l26 = 0, l27 = 0, l28 = 0, l29 = 0, l30 = 0, l31 = 0, l32 = 0, l33 = 0, l34 = 0, l35 = 0, l36 = 0, l37 = 0, l38 = 0, l39 = 0, l40 = 0, l41 = 0, l42 = 0, l43 = 0, l44 = 0, l45 = 0, l46 = 0, l47 = 0, l48 = 0, l49 = 0, l50 = 0, l51 = 0, l52 = 0, l53 = 0, l54 = 0;
   u32 i0, i1, i2, i4;
   u64 j0, j1, j2, j3, j4, j5;
@@ -104278,7 +104557,7 @@ static void code_f139(uint8_t *const m, const u32 last, u64 p0) {
   j0 = l1;
   j1 = 320ull;
   j0 += j1;
-  call(code_f140(m, last, j0));
+  call(code_f141(m, last, j0));
   j0 = l7;
   i0 = !(j0);
   if (i0) {goto B25;}
@@ -104611,7 +104890,7 @@ static void code_f139(uint8_t *const m, const u32 last, u64 p0) {
   j0 = l1;
   j1 = 320ull;
   j0 += j1;
-  call(code_f141(m, last, j0));
+  call(code_f142(m, last, j0));
   j0 = l11;
   i0 = !(j0);
   if (i0) {goto B0;}
@@ -104896,7 +105175,7 @@ static void code_f139(uint8_t *const m, const u32 last, u64 p0) {
   j0 = l1;
   j1 = 320ull;
   j0 += j1;
-  call(code_f141(m, last, j0));
+  call(code_f142(m, last, j0));
   j0 = l11;
   i0 = !(j0);
   if (i0) {goto B33;}
@@ -105019,7 +105298,7 @@ static void code_f139(uint8_t *const m, const u32 last, u64 p0) {
     j0 = l1;
     j1 = 320ull;
     j0 += j1;
-    call(code_f141(m, last, j0));
+    call(code_f142(m, last, j0));
     j0 = l40;
     j1 = 18446744073709551615ull;
     j0 += j1;
@@ -105368,7 +105647,7 @@ static void code_f139(uint8_t *const m, const u32 last, u64 p0) {
   j0 = l1;
   j1 = 320ull;
   j0 += j1;
-  call(code_f141(m, last, j0));
+  call(code_f142(m, last, j0));
   j0 = l45;
   i0 = !(j0);
   if (i0) {goto B0;}
@@ -105571,7 +105850,7 @@ static void code_f139(uint8_t *const m, const u32 last, u64 p0) {
   j0 = l1;
   j1 = 320ull;
   j0 += j1;
-  call(code_f140(m, last, j0));
+  call(code_f141(m, last, j0));
   j0 = l22;
   i0 = !(j0);
   if (i0) {goto B51;}
@@ -105605,7 +105884,7 @@ static void code_f139(uint8_t *const m, const u32 last, u64 p0) {
   return;
 }
 
-static void code_f140(uint8_t *const m, const u32 last, u64 p0) {
+static void code_f141(uint8_t *const m, const u32 last, u64 p0) {
   u32 l19 = 0;
   u64 l1 = 0, l2 = 0, l3 = 0, l4 = 0, l5 = 0, l6 = 0, l7 = 0, l8 = 0, l9 = 0, l10 = 0, l11 = 0, l12 = 0, l13 = 0, l14 = 0, l15 = 0, l16 = 0, l17 = 0, l18 = 0;
   u32 i0, i1;
@@ -105763,7 +106042,7 @@ static void code_f140(uint8_t *const m, const u32 last, u64 p0) {
   return;
 }
 
-static void code_f141(uint8_t *const m, const u32 last, u64 p0) {
+static void code_f142(uint8_t *const m, const u32 last, u64 p0) {
   u64 l1 = 0, l2 = 0, l3 = 0, l4 = 0, l5 = 0, l6 = 0, l7 = 0, l8 = 0, l9 = 0, l10 = 0, l11 = 0, l12 = 0, l13 = 0, l14 = 0, l15 = 0, l16 = 0, l17 = 0, l18 = 0, l19 = 0, l20 = 0, l21 = 0, l22 = 0;
   u32 i0;
   u64 j0, j1;
@@ -106665,7 +106944,7 @@ static u32 code_pocket_word(uint8_t *const m, const u32 last, u64 p0, u64 p1, u6
   j0 = l4;
   j1 = 384ull;
   j0 += j1;
-  call(i0 = code_f45(m, last, j0));
+  call(i0 = code_f46(m, last, j0));
   i0 = !(i0);
   if (i0) {goto B13;}
   j0 = l4;
@@ -106849,7 +107128,7 @@ static u32 code_pocket_get(uint8_t *const m, const u32 last, u64 p0, u64 p1, u64
   j4 = l6;
   i4 = (u32)(j4);
   i64_load_at(j4, frame, 40);
-  call(code_f34(m, last, j0, j1, j2, j3, j4));
+  call(code_f35(m, last, j0, j1, j2, j3, j4));
   j0 = l6;
   i0 = (u32)(j0);
   i32_load8_u_at(i0, frame, 8);
@@ -107730,7 +108009,7 @@ static u32 code_pocket_run(uint8_t *const m, const u32 last, u64 p0, u64 p1, u64
     i1 = 61u;
     j2 = l9;
     j3 = l16;
-    call(code_f46(m, last, j0, i1, j2, j3));
+    call(code_f47(m, last, j0, i1, j2, j3));
     j0 = l5;
     i0 = (u32)(j0);
     i32_load8_u_at(i0, frame, 7104);
@@ -107748,31 +108027,31 @@ static u32 code_pocket_run(uint8_t *const m, const u32 last, u64 p0, u64 p1, u64
     l19 = j1;
     j2 = 1048576ull;
     j3 = 2ull;
-    call(i0 = code_f48(m, last, j0, j1, j2, j3));
+    call(i0 = code_f49(m, last, j0, j1, j2, j3));
     if (i0) {goto B13;}
     j0 = l9;
     j1 = l19;
     j2 = 1048578ull;
     j3 = 4ull;
-    call(i0 = code_f48(m, last, j0, j1, j2, j3));
+    call(i0 = code_f49(m, last, j0, j1, j2, j3));
     if (i0) {goto B13;}
     j0 = l9;
     j1 = l19;
     j2 = 1048582ull;
     j3 = 6ull;
-    call(i0 = code_f48(m, last, j0, j1, j2, j3));
+    call(i0 = code_f49(m, last, j0, j1, j2, j3));
     if (i0) {goto B13;}
     j0 = l9;
     j1 = l19;
     j2 = 1048588ull;
     j3 = 6ull;
-    call(i0 = code_f48(m, last, j0, j1, j2, j3));
+    call(i0 = code_f49(m, last, j0, j1, j2, j3));
     if (i0) {goto B13;}
     j0 = l9;
     j1 = l19;
     j2 = 1048594ull;
     j3 = 7ull;
-    call(i0 = code_f48(m, last, j0, j1, j2, j3));
+    call(i0 = code_f49(m, last, j0, j1, j2, j3));
     i0 = !(i0);
     if (i0) {goto B12;}
     B13:;
@@ -107787,7 +108066,7 @@ static u32 code_pocket_run(uint8_t *const m, const u32 last, u64 p0, u64 p1, u64
     j4 = l16;
     j5 = l18;
     j4 -= j5;
-    call(code_f34(m, last, j0, j1, j2, j3, j4));
+    call(code_f35(m, last, j0, j1, j2, j3, j4));
     i0 = 1u;
     l43 = i0;
     j0 = l5;
@@ -108157,7 +108436,7 @@ static u32 code_pocket_run(uint8_t *const m, const u32 last, u64 p0, u64 p1, u64
   l9 = j1;
   j2 = 1048601ull;
   j3 = 8ull;
-  call(i0 = code_f48(m, last, j0, j1, j2, j3));
+  call(i0 = code_f49(m, last, j0, j1, j2, j3));
   i0 = !(i0);
   if (i0) {goto B14;}
   j0 = 1048656ull;
@@ -108184,7 +108463,7 @@ static u32 code_pocket_run(uint8_t *const m, const u32 last, u64 p0, u64 p1, u64
   j1 = l9;
   j2 = 1048609ull;
   j3 = 4ull;
-  call(i0 = code_f48(m, last, j0, j1, j2, j3));
+  call(i0 = code_f49(m, last, j0, j1, j2, j3));
   i0 = !(i0);
   if (i0) {goto B15;}
   j0 = 1048968ull;
@@ -108199,7 +108478,7 @@ static u32 code_pocket_run(uint8_t *const m, const u32 last, u64 p0, u64 p1, u64
   j1 = l9;
   j2 = 1048613ull;
   j3 = 7ull;
-  call(i0 = code_f48(m, last, j0, j1, j2, j3));
+  call(i0 = code_f49(m, last, j0, j1, j2, j3));
   i0 = !(i0);
   if (i0) {goto B16;}
   j0 = 1049192ull;
@@ -108216,7 +108495,7 @@ static u32 code_pocket_run(uint8_t *const m, const u32 last, u64 p0, u64 p1, u64
   j1 = l9;
   j2 = 1048620ull;
   j3 = 4ull;
-  call(i0 = code_f48(m, last, j0, j1, j2, j3));
+  call(i0 = code_f49(m, last, j0, j1, j2, j3));
   i0 = !(i0);
   if (i0) {goto B17;}
   j0 = 1049416ull;
@@ -108231,7 +108510,7 @@ static u32 code_pocket_run(uint8_t *const m, const u32 last, u64 p0, u64 p1, u64
   j1 = l9;
   j2 = 1048624ull;
   j3 = 5ull;
-  call(i0 = code_f48(m, last, j0, j1, j2, j3));
+  call(i0 = code_f49(m, last, j0, j1, j2, j3));
   i0 = !(i0);
   if (i0) {goto B18;}
   j0 = 1049592ull;
@@ -108254,7 +108533,7 @@ static u32 code_pocket_run(uint8_t *const m, const u32 last, u64 p0, u64 p1, u64
   j1 = l9;
   j2 = 1048629ull;
   j3 = 5ull;
-  call(i0 = code_f48(m, last, j0, j1, j2, j3));
+  call(i0 = code_f49(m, last, j0, j1, j2, j3));
   i0 = !(i0);
   if (i0) {goto B19;}
   j0 = 1049816ull;
@@ -108269,7 +108548,7 @@ static u32 code_pocket_run(uint8_t *const m, const u32 last, u64 p0, u64 p1, u64
   j1 = l9;
   j2 = 1048634ull;
   j3 = 4ull;
-  call(i0 = code_f48(m, last, j0, j1, j2, j3));
+  call(i0 = code_f49(m, last, j0, j1, j2, j3));
   i0 = !(i0);
   if (i0) {goto B20;}
   j0 = 1050000ull;
@@ -108294,7 +108573,7 @@ static u32 code_pocket_run(uint8_t *const m, const u32 last, u64 p0, u64 p1, u64
   j1 = l9;
   j2 = 1048638ull;
   j3 = 5ull;
-  call(i0 = code_f48(m, last, j0, j1, j2, j3));
+  call(i0 = code_f49(m, last, j0, j1, j2, j3));
   i0 = !(i0);
   if (i0) {goto B21;}
   j0 = 1050272ull;
@@ -108317,7 +108596,7 @@ static u32 code_pocket_run(uint8_t *const m, const u32 last, u64 p0, u64 p1, u64
   j1 = l9;
   j2 = 1048643ull;
   j3 = 8ull;
-  call(i0 = code_f48(m, last, j0, j1, j2, j3));
+  call(i0 = code_f49(m, last, j0, j1, j2, j3));
   if (i0) {goto B22;}
   i0 = 1u;
   l49 = i0;
@@ -108422,7 +108701,7 @@ static u32 code_pocket_run(uint8_t *const m, const u32 last, u64 p0, u64 p1, u64
     i1 = 61u;
     j2 = l16;
     j3 = l25;
-    call(code_f46(m, last, j0, i1, j2, j3));
+    call(code_f47(m, last, j0, i1, j2, j3));
     j0 = l5;
     i0 = (u32)(j0);
     i32_load8_u_at(i0, frame, 840);
@@ -111519,7 +111798,7 @@ static u32 code_pocket_run(uint8_t *const m, const u32 last, u64 p0, u64 p1, u64
       i1 = 61u;
       j2 = l9;
       j3 = l18;
-      call(code_f46(m, last, j0, i1, j2, j3));
+      call(code_f47(m, last, j0, i1, j2, j3));
       j0 = l5;
       i0 = (u32)(j0);
       i32_load8_u_at(i0, frame, 840);
@@ -111532,7 +111811,7 @@ static u32 code_pocket_run(uint8_t *const m, const u32 last, u64 p0, u64 p1, u64
       i64_load_at(j1, frame, 848);
       j2 = l16;
       j3 = l15;
-      call(i0 = code_f48(m, last, j0, j1, j2, j3));
+      call(i0 = code_f49(m, last, j0, j1, j2, j3));
       if (i0) {goto B25;}
       B62:;
       j0 = p2;
@@ -111561,7 +111840,7 @@ static u32 code_pocket_run(uint8_t *const m, const u32 last, u64 p0, u64 p1, u64
     j8 = l26;
     j7 -= j8;
     l9 = j7;
-    call(i0 = code_f49(m, last, j0, j1, j2, j3, i4, i5, j6, j7));
+    call(i0 = code_f50(m, last, j0, j1, j2, j3, i4, i5, j6, j7));
     l47 = i0;
     j0 = l20;
     j1 = l22;
@@ -111571,7 +111850,7 @@ static u32 code_pocket_run(uint8_t *const m, const u32 last, u64 p0, u64 p1, u64
     i5 = 3u;
     j6 = p2;
     j7 = l9;
-    call(i0 = code_f49(m, last, j0, j1, j2, j3, i4, i5, j6, j7));
+    call(i0 = code_f50(m, last, j0, j1, j2, j3, i4, i5, j6, j7));
     l48 = i0;
     i0 = l43;
     switch (i0) {
@@ -111596,7 +111875,7 @@ static u32 code_pocket_run(uint8_t *const m, const u32 last, u64 p0, u64 p1, u64
     j1 = l9;
     j2 = 1050728ull;
     j3 = 1ull;
-    call(i0 = code_f48(m, last, j0, j1, j2, j3));
+    call(i0 = code_f49(m, last, j0, j1, j2, j3));
     if (i0) {goto B63;}
     i0 = l48;
     i1 = 1u;
@@ -111615,7 +111894,7 @@ static u32 code_pocket_run(uint8_t *const m, const u32 last, u64 p0, u64 p1, u64
     j1 = l9;
     j2 = 1050728ull;
     j3 = 1ull;
-    call(i0 = code_f48(m, last, j0, j1, j2, j3));
+    call(i0 = code_f49(m, last, j0, j1, j2, j3));
     if (i0) {goto B63;}
     i0 = l47;
     i1 = 1u;
@@ -111631,7 +111910,7 @@ static u32 code_pocket_run(uint8_t *const m, const u32 last, u64 p0, u64 p1, u64
     j2 = l9;
     j3 = l10;
     j4 = l19;
-    call(code_f51(m, last, j0, j1, j2, j3, j4));
+    call(code_f52(m, last, j0, j1, j2, j3, j4));
     j0 = l5;
     i0 = (u32)(j0);
     i32_load8_u_at(i0, frame, 16);
@@ -111983,7 +112262,7 @@ static u32 code_pocket_run(uint8_t *const m, const u32 last, u64 p0, u64 p1, u64
         j3 = 32ull;
         j2 += j3;
         j3 = l17;
-        call(j1 = code_f47(m, last, j1, j2, j3));
+        call(j1 = code_f48(m, last, j1, j2, j3));
         p2 = j1;
         j0 -= j1;
         j1 = 31ull;
@@ -114204,7 +114483,7 @@ static u32 code_pocket_run(uint8_t *const m, const u32 last, u64 p0, u64 p1, u64
     i1 = 61u;
     j2 = l9;
     j3 = l16;
-    call(code_f46(m, last, j0, i1, j2, j3));
+    call(code_f47(m, last, j0, i1, j2, j3));
     j0 = l5;
     i0 = (u32)(j0);
     i32_load8_u_at(i0, frame, 7136);
@@ -114221,7 +114500,7 @@ static u32 code_pocket_run(uint8_t *const m, const u32 last, u64 p0, u64 p1, u64
     i64_load_at(j1, frame, 7144);
     j2 = 1050729ull;
     j3 = 4ull;
-    call(i0 = code_f48(m, last, j0, j1, j2, j3));
+    call(i0 = code_f49(m, last, j0, j1, j2, j3));
     if (i0) {goto B27;}
     B86:;
     j0 = p2;
@@ -114258,14 +114537,14 @@ static u32 code_pocket_run(uint8_t *const m, const u32 last, u64 p0, u64 p1, u64
   j2 = l27;
   j3 = 1050733ull;
   j4 = 4ull;
-  call(i1 = code_f52(m, last, j1, j2, j3, j4));
+  call(i1 = code_f53(m, last, j1, j2, j3, j4));
   j2 = l9;
   j3 = l18;
   j2 += j3;
   j3 = l16;
   j4 = l18;
   j3 -= j4;
-  call(code_f53(m, last, j0, i1, j2, j3));
+  call(code_f54(m, last, j0, i1, j2, j3));
   j0 = l5;
   i0 = (u32)(j0);
   i32_load8_u_at(i0, frame, 840);
@@ -114334,7 +114613,7 @@ static u32 code_pocket_run(uint8_t *const m, const u32 last, u64 p0, u64 p1, u64
   j1 = l5;
   j2 = 816ull;
   j1 += j2;
-  call(code_f54(m, last, j0, j1));
+  call(code_f55(m, last, j0, j1));
   j0 = l5;
   i0 = (u32)(j0);
   j1 = l5;
@@ -114363,7 +114642,7 @@ static u32 code_pocket_run(uint8_t *const m, const u32 last, u64 p0, u64 p1, u64
   j3 = l5;
   j4 = 6992ull;
   j3 += j4;
-  call(code_f55(m, last, j0, j1, i2, j3));
+  call(code_f56(m, last, j0, j1, i2, j3));
   j0 = l5;
   i0 = (u32)(j0);
   i32_load8_u_at(i0, frame, 7104);
@@ -114400,7 +114679,7 @@ static u32 code_pocket_run(uint8_t *const m, const u32 last, u64 p0, u64 p1, u64
   j3 = l5;
   j4 = 368ull;
   j3 += j4;
-  call(code_f59(m, last, j0, j1, j2, j3));
+  call(code_f60(m, last, j0, j1, j2, j3));
   j0 = l5;
   i0 = (u32)(j0);
   i32_load8_u_at(i0, frame, 840);
@@ -114425,7 +114704,7 @@ static u32 code_pocket_run(uint8_t *const m, const u32 last, u64 p0, u64 p1, u64
   j1 = l5;
   j2 = 816ull;
   j1 += j2;
-  call(code_f54(m, last, j0, j1));
+  call(code_f55(m, last, j0, j1));
   i0 = l50;
   i0 = !(i0);
   if (i0) {goto B94;}
@@ -114506,7 +114785,7 @@ static u32 code_pocket_run(uint8_t *const m, const u32 last, u64 p0, u64 p1, u64
   i0 = j0 != j1;
   if (i0) {goto B93;}
   j0 = l30;
-  call(i0 = code_f56(m, last, j0));
+  call(i0 = code_f57(m, last, j0));
   i0 = !(i0);
   if (i0) {goto B97;}
   j0 = 18446744073709551615ull;
@@ -114531,7 +114810,7 @@ static u32 code_pocket_run(uint8_t *const m, const u32 last, u64 p0, u64 p1, u64
   i64_load_at(j2, frame, 376);
   j3 = l8;
   j4 = l15;
-  call(code_f34(m, last, j0, j1, j2, j3, j4));
+  call(code_f35(m, last, j0, j1, j2, j3, j4));
   j0 = l5;
   i0 = (u32)(j0);
   i32_load8_u_at(i0, frame, 0);
@@ -114555,7 +114834,7 @@ static u32 code_pocket_run(uint8_t *const m, const u32 last, u64 p0, u64 p1, u64
   j1 = l17;
   i64_store_at(j1, frame, 720);
   j0 = l16;
-  call(code_f139(m, last, j0));
+  call(code_f140(m, last, j0));
   i0 = 0u;
   l47 = i0;
   j0 = 0ull;
@@ -114587,7 +114866,7 @@ static u32 code_pocket_run(uint8_t *const m, const u32 last, u64 p0, u64 p1, u64
   i1 = 0u;
   j2 = l18;
   j3 = l17;
-  call(i0 = code_f126(m, last, j0, i1, j2, j3));
+  call(i0 = code_f127(m, last, j0, i1, j2, j3));
   i1 = 255u;
   i0 &= i1;
   if (i0) {goto B98;}
@@ -114603,7 +114882,7 @@ static u32 code_pocket_run(uint8_t *const m, const u32 last, u64 p0, u64 p1, u64
   i1 = 1u;
   j2 = l10;
   j3 = l19;
-  call(i0 = code_f126(m, last, j0, i1, j2, j3));
+  call(i0 = code_f127(m, last, j0, i1, j2, j3));
   i1 = 255u;
   i0 &= i1;
   if (i0) {goto B98;}
@@ -114633,7 +114912,7 @@ static u32 code_pocket_run(uint8_t *const m, const u32 last, u64 p0, u64 p1, u64
   j2 = l5;
   j3 = 368ull;
   j2 += j3;
-  call(code_f128(m, last, j0, j1, j2));
+  call(code_f129(m, last, j0, j1, j2));
   j0 = l5;
   i0 = (u32)(j0);
   i32_load8_u_at(i0, frame, 768);
@@ -114663,7 +114942,7 @@ static u32 code_pocket_run(uint8_t *const m, const u32 last, u64 p0, u64 p1, u64
   j1 = 688ull;
   j0 += j1;
   l17 = j0;
-  call(i0 = code_f56(m, last, j0));
+  call(i0 = code_f57(m, last, j0));
   i0 = !(i0);
   if (i0) {goto B101;}
   j0 = l5;
@@ -114742,7 +115021,7 @@ static u32 code_pocket_run(uint8_t *const m, const u32 last, u64 p0, u64 p1, u64
   goto B88;
   B103:;
   j0 = l17;
-  call(i0 = code_f56(m, last, j0));
+  call(i0 = code_f57(m, last, j0));
   i0 = !(i0);
   if (i0) {goto B105;}
   j0 = l5;
@@ -114816,7 +115095,7 @@ static u32 code_pocket_run(uint8_t *const m, const u32 last, u64 p0, u64 p1, u64
   j0 = l5;
   j1 = 7136ull;
   j0 += j1;
-  call(code_f139(m, last, j0));
+  call(code_f140(m, last, j0));
   goto B90;
   B92:;
   j0 = l5;
@@ -115295,7 +115574,7 @@ static u32 code_pocket_run(uint8_t *const m, const u32 last, u64 p0, u64 p1, u64
   j1 = 840ull;
   j0 += j1;
   j1 = p2;
-  call(code_f66(m, last, j0, j1));
+  call(code_f67(m, last, j0, j1));
   j0 = l5;
   j1 = 840ull;
   j0 += j1;
@@ -115398,7 +115677,7 @@ static u32 code_pocket_run(uint8_t *const m, const u32 last, u64 p0, u64 p1, u64
   j1 = 840ull;
   j0 += j1;
   j1 = p2;
-  call(code_f66(m, last, j0, j1));
+  call(code_f67(m, last, j0, j1));
   j0 = l5;
   j1 = 840ull;
   j0 += j1;
@@ -115501,7 +115780,7 @@ static u32 code_pocket_run(uint8_t *const m, const u32 last, u64 p0, u64 p1, u64
   j1 = 840ull;
   j0 += j1;
   j1 = p2;
-  call(code_f66(m, last, j0, j1));
+  call(code_f67(m, last, j0, j1));
   j0 = l5;
   j1 = 840ull;
   j0 += j1;
@@ -115637,7 +115916,7 @@ static u32 code_pocket_run(uint8_t *const m, const u32 last, u64 p0, u64 p1, u64
   j1 = 840ull;
   j0 += j1;
   j1 = p2;
-  call(code_f66(m, last, j0, j1));
+  call(code_f67(m, last, j0, j1));
   j0 = l5;
   i0 = (u32)(j0);
   i64_load_at(j0, frame, 968);
@@ -115686,7 +115965,7 @@ static u32 code_pocket_run(uint8_t *const m, const u32 last, u64 p0, u64 p1, u64
   j1 = 840ull;
   j0 += j1;
   j1 = p2;
-  call(code_f66(m, last, j0, j1));
+  call(code_f67(m, last, j0, j1));
   j0 = l5;
   j1 = 840ull;
   j0 += j1;
@@ -115768,7 +116047,7 @@ static u32 code_pocket_run(uint8_t *const m, const u32 last, u64 p0, u64 p1, u64
   j1 = 840ull;
   j0 += j1;
   j1 = l7;
-  call(code_f66(m, last, j0, j1));
+  call(code_f67(m, last, j0, j1));
   j0 = l5;
   j1 = 840ull;
   j0 += j1;
