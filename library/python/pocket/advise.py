@@ -147,8 +147,6 @@ def run(words: List[str]) -> int:
     """Writes the schedule, and tells what it is for."""
     said = given(words, KEYS, ["packets", "script", "rows"])
     packets, most, shift = number_of(said, "packets", 1, 1_000_000) or 1, number_of(said, "rows", 0, 1000) or 0, number_of(said, "shift", 0, 1000) or 0
-    if said.get("plan") == said["script"] == "-":
-        raise ToolError("standard input is one file")
     with outputs("advise", said, [said[key] for key in ("plan", "script") if key in said]) as (out, tell):
         plan, script = contents(said["plan"]) if "plan" in said else b"", contents(said["script"])
         # (a wrong row is refused before rows are shifted)

@@ -78,8 +78,6 @@ def run(words: List[str]) -> int:
     """Writes the recording."""
     said = given(words, KEYS, ["fields", "bits"])
     name, bits = said.get("in", "-"), number_of(said, "bits", 1, MOST_BITS) or 0
-    if said["fields"] == name == "-":
-        raise ToolError("standard input is one file")
     with outputs("pack", said, [name, said["fields"]]) as (out, _):
         try:
             text = contents(name).decode("ascii")

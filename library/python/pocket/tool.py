@@ -134,10 +134,13 @@ class Output:
 
 @contextlib.contextmanager
 def outputs(tool: str, said: Dict[str, str], inputs: Sequence[str]) -> Iterator[Tuple[BinaryIO, Tell]]:
-    """Where a tool writes, by `out=`, and what tells a line, by `report=`: standard output and standard error if they aren't named."""
+    """Where a tool that reads these inputs writes, by `out=`, and what tells a line, by `report=`: standard output and standard error if they
+    aren't named."""
     names = [said.get("out", "-"), *([said["report"]] if "report" in said else [])]
     if names == ["-", "-"]:
         raise ToolError("standard output is one output")
+    if inputs.count("-") > 1:
+        raise ToolError("standard input is one file")
     made: List[Output] = []
     for name in names:
         made.append(Output(name, inputs, [path for one in made if one.part for path in (one.target, one.part)]))
