@@ -218,8 +218,9 @@ def stretches(name: str, place: int, low: int, high: int, lines: List[Line]) -> 
     for (side, own), after in itertools.zip_longest(runs, [own[0] for _, own in runs[1:]]):
         if side:
             worst = max(own, key=value) if side > 0 else min(own, key=value)
-            cells = [name, *(("high", high) if side > 0 else ("low", low)), own[0].number, shown(own[0].time), *((after.number, shown(after.time)) if after else ("", "")),
-                     len(own), value(worst), worst.number, shown(worst.time)]
+            limit = ["high", high] if side > 0 else ["low", low]
+            left = [after.number, shown(after.time)] if after else ["", ""]
+            cells = [name, *limit, own[0].number, shown(own[0].time), *left, len(own), value(worst), worst.number, shown(worst.time)]
             yield own[0].number, place, ",".join(map(str, cells))
 
 
