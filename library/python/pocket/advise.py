@@ -30,7 +30,6 @@ from typing import Iterator, List, NamedTuple, Optional, Sequence, Set, Tuple
 
 from . import PocketError
 from . import run as command
-from .library import library
 from .tool import ToolError, contents, given, number_of, outputs
 
 KEYS = ("packets", "script", "rows", "plan", "shift", "out", "report")
@@ -59,13 +58,10 @@ def forecast(packets: int, robust: int, plan: bytes, script: bytes) -> str:
     """The forecast of a pass."""
     words = ("forecast", f"packets={packets}", f"robust={robust}")
     try:
-        is_there = hasattr(library, "pocket_desk_open")
-    except (OSError, PocketError):
-        is_there = False
-    if not is_there:
-        return by_program(words, plan, script)
-    try:
         return command(*words, "out=out", "plan=plan", "script=script", inputs={"plan": plan, "script": script})["out"].decode()
+    except (OSError, AttributeError):
+        # (the library isn't there, or has no desk)
+        return by_program(words, plan, script)
     except PocketError as refusal:
         raise ToolError(str(refusal)) from refusal
 
