@@ -1,7 +1,3 @@
-"""The tool `advise`: what it does is told by HELP."""
-
-from __future__ import annotations
-
 HELP = """python3 -m pocket advise packets=N script=S rows=K [plan=P] [shift=M]: a small `robust` with which few rows make all safe that arrives.
 
     python3 -m pocket advise packets=1000 script=fades.csv rows=3 shift=10 out=pass.csv

@@ -1,7 +1,5 @@
 """Senders, receivers and desks in memory, each over a handle of the library."""
 
-from __future__ import annotations
-
 import contextlib
 import ctypes
 import enum
@@ -304,10 +302,9 @@ class Desk(Held):
         if len(coded) > 1000:
             raise TooManyWords("the command has too many arguments")
         for word in coded:
-            status = library.pocket_word(self._handle, *word)
-            if status:
+            if status := library.pocket_word(self._handle, *word):
                 self._close(self._handle)
-            done(status)
+                done(status)
         text, length, exit_number = ctypes.create_string_buffer(128), ctypes.c_size_t(), ctypes.c_uint8()
         done(library.pocket_run(self._handle, text, len(text), length, exit_number))
         if exit_number.value:

@@ -1,7 +1,5 @@
 """What a call that is refused raises."""
 
-from __future__ import annotations
-
 from .library import library
 
 

@@ -1,7 +1,5 @@
 """The parameter file of the command `table`: fields of a packet, and their limits."""
 
-from __future__ import annotations
-
 import csv
 import io
 import re

@@ -1,7 +1,3 @@
-"""The tool `frames`: what it does is told by HELP."""
-
-from __future__ import annotations
-
 HELP = """python3 -m pocket frames length=N [vcid=N] [scid=N] [sync=1] [control=1]: takes the Space Packets of one virtual channel out of TM
 Transfer Frames.
 
@@ -97,14 +93,13 @@ class Packets:
     sums: Counter[str]
     has_control: bool
     gathered: bytes = b""
-    is_within: bool = False
     latest: Optional[Frame] = None
 
     def drop(self, why: str) -> None:
         """Gives up the packet that isn't whole."""
-        cut = f", which cuts a packet of which {len(self.gathered)} bytes came: it is left out" if self.is_within else ""
-        self.sums["cut"] += self.is_within
-        self.gathered, self.is_within = b"", False
+        cut = f", which cuts a packet of which {len(self.gathered)} bytes came: it is left out" if self.gathered else ""
+        self.sums["cut"] += bool(self.gathered)
+        self.gathered = b""
         self.tell(why + cut)
 
     def missing(self, frame: Frame) -> bool:
@@ -131,14 +126,14 @@ class Packets:
         self.latest = frame
         if frame.first == IDLE_DATA:
             self.sums["idle"] += 1
-            if self.is_within:
+            if self.gathered:
                 self.drop(f"the frame at byte {frame.place} has idle data alone")
             return
         begun = len(frame.data) if frame.first == NO_PACKET else frame.first
-        if self.is_within:
+        if self.gathered:
             yield from self.going_on(frame, begun)
         if frame.first != NO_PACKET:
-            self.gathered, self.is_within = frame.data[begun:], True
+            self.gathered = frame.data[begun:]
             yield from self.whole_ones(frame)
 
     def going_on(self, frame: Frame, begun: int) -> Iterator[bytes]:
@@ -162,7 +157,6 @@ class Packets:
             packet, self.gathered = self.gathered[:size], self.gathered[size:]
             if int.from_bytes(packet[:2], "big") & 0x7FF != IDLE:
                 yield packet
-        self.is_within = bool(self.gathered)
 
 
 class Run:
@@ -233,7 +227,7 @@ class Run:
                 for packet in self.taken.take(frame):
                     self.sums["packets"] += 1
                     yield packet
-        if self.taken.is_within:
+        if self.taken.gathered:
             self.taken.drop("the frames end")
 
     def end(self) -> int:

@@ -1,7 +1,5 @@
 """The calls of libpocket.so, by ctypes."""
 
-from __future__ import annotations
-
 import ctypes
 import ctypes.util
 import os

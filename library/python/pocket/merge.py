@@ -1,7 +1,3 @@
-"""The tool `merge`: what it does is told by HELP."""
-
-from __future__ import annotations
-
 HELP = """python3 -m pocket merge FIRST SECOND near=.. ..: joins the records of one pass by several stations into one store, in order.
 
     python3 -m pocket merge first.store second.store near=16500 out=both.store

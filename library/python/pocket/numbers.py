@@ -1,7 +1,3 @@
-"""The tool `numbers`: what it does is told by HELP."""
-
-from __future__ import annotations
-
 HELP = """python3 -m pocket numbers table=T report=R [fields=F bits=N] [as=csv|influx|events] [..]: a table with each packet's number and time.
 
     python3 -m pocket numbers table=day.table report=day.report start=2026-11-30T06:00:00Z step=1 out=day.csv

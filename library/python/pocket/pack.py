@@ -1,7 +1,3 @@
-"""The tool `pack`: what it does is told by HELP."""
-
-from __future__ import annotations
-
 HELP = """python3 -m pocket pack fields=F bits=N [in=CSV]: a recording out of a table of numbers, which is the inverse of the command `table`.
 
     python3 -m pocket pack fields=hk.fields bits=64 in=numbers.csv out=hk.rec

@@ -1,7 +1,5 @@
 """Space Packets (CCSDS 133.0-B-2)."""
 
-from __future__ import annotations
-
 import struct
 from dataclasses import dataclass
 from typing import BinaryIO, Iterator

@@ -1,12 +1,10 @@
 """What the tools of `python3 -m pocket` share: their words, their files, and what is wrong with them."""
 
-from __future__ import annotations
-
 import contextlib
 import difflib
 import os
 import re
-import stat
+import shutil
 import sys
 from typing import BinaryIO, Callable, Dict, Iterator, List, Optional, Sequence, Tuple
 
@@ -116,7 +114,7 @@ class Output:
                 raise ToolError(f"{name}: {path}.part is no regular file")
             self.file, self.target, self.part = open(path + ".part", "wb"), path, path + ".part"
             if os.path.exists(path):
-                os.chmod(self.part, stat.S_IMODE(os.stat(path).st_mode))
+                shutil.copymode(path, self.part)
         except (OSError, ValueError) as error:
             raise error if isinstance(error, ToolError) else ToolError(f"{name}: {getattr(error, 'strerror', None) or error}") from error
 
