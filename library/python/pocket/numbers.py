@@ -192,7 +192,7 @@ def series(said: Dict[str, str], tags: List[str], names: Sequence[str]) -> str:
 
 def as_influx(names: List[str], lines: List[Line], fields: Fields, own: str) -> Iterator[str]:
     """A point for each packet. A number of 64 bits without a sign is Influx's own kind of these. Points of one series and time would be one."""
-    kinds = {one.name: "u" if one.width == 64 and not one.signed else "i" for one in fields.fields}
+    kinds = {one.name: "u" if one.width == 64 and not one.signed else "i" for one in fields.fields.values()}
     number = apart("number", names)
     before: Dict[Optional[int], int] = {}
     if "time" in names:
@@ -233,7 +233,7 @@ FORMS = {"csv": as_csv, "influx": as_influx, "events": as_events}
 def lines_of(said: Dict[str, str], clock: Clock, fields: Fields) -> Tuple[List[str], List[Line], str]:
     """The names of a table's fields, its packets, and what has to be told of their times."""
     names, values = table_of(said["table"])
-    if fields.fields and [one.name for one in fields.fields] != names:
+    if fields.fields and list(fields.fields) != names:
         raise ToolError(f"the fields of {said['fields']} are not those of {said['table']}")
     rows = rows_of(said["report"], number_of(said, "apid", 0, IDLE - 1))
     numbers = list(written(said["report"], rows))
