@@ -5,6 +5,7 @@ import os
 
 from library import LibraryTest
 import pocket
+from pocket.errors import REFUSED
 
 INPUTS = bytes.fromhex("B0B1B1B3")
 PACKETS = [("85B8D600", 1), ("424B8D62", 1), ("44C0", 2), ("C085C0", 1)]
@@ -113,9 +114,10 @@ class Python(LibraryTest):
             self.refuses(pocket.Closed, CLOSED, call, *words)
 
     def test_library(self):
-        """The functions with the checks are found by their names, and the library is of the module's version."""
+        """The functions with the checks are found by their names, and it has a text for each answer that has an error of its own."""
         library = ctypes.CDLL(os.environ["POCKET_LIBRARY"])
-        library.pocket_version.restype = ctypes.c_char_p
+        library.pocket_version.restype = library.pocket_status_text.restype = ctypes.c_char_p
         self.assertEqual(library.pocket_version().decode(), pocket.__version__)
+        self.assertNotIn(b"no call answers this", [library.pocket_status_text(status) for status in REFUSED])
         for call in "sender_open sender_reset send sent receiver_open receiver_reset receive counts bits desk_open put word run get remove name_from close".split():
             self.assertEqual(getattr(library, "pocket_checked_" + call)(*[None] * 11), 255, call)
