@@ -71,8 +71,7 @@ def fields_of(name: str, bits: int) -> Fields:
     found = Fields()
     try:
         for place, row in enumerate((row for row in csv.reader(io.StringIO(text)) if row), 1):
-            wrong = found.take(row, bits)
-            if wrong:
+            if wrong := found.take(row, bits):
                 raise ToolError(f"{name}: row {place}, {','.join(row)}: {wrong}")
     except csv.Error as error:
         raise ToolError(f"{name}: {error}") from error

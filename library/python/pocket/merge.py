@@ -113,8 +113,7 @@ class Record:
         for packet in self.packets():
             stream = self.streams.setdefault(packet.apid, Stream(packet.number))
             stream.last, stream.packets = packet.number, stream.packets + 1
-        strange = [apid for apid in self.near if apid is not None and apid not in self.streams]
-        if strange:
+        if strange := [apid for apid in self.near if apid is not None and apid not in self.streams]:
             raise ToolError(f"{self.name} has no packet of APID {strange[0]}, which near= names")
         if None in self.near and len(self.streams) > 1:
             raise ToolError(f"{self.name} has packets of {len(self.streams)} APIDs: say near=APID:N")

@@ -123,8 +123,7 @@ class Clock:
     def __init__(self, said: Dict[str, str]) -> None:
         self.field, self.is_known = said.get("time"), bool({"time", "start"} & set(said))
         for key, others in (("time", ("epoch", "unit")), ("start", ("step",))):
-            wrong = [one for one in others if (one in said) != (key in said)]
-            if wrong:
+            if wrong := [one for one in others if (one in said) != (key in said)]:
                 raise ToolError(f"{wrong[0]}= is missing beside {key}=" if key in said else f"{wrong[0]}= is given without {key}=")
         if {"time", "start"} <= set(said):
             raise ToolError("time= and start= are two ways to tell times: say one")
