@@ -22,12 +22,7 @@ import retarget
 
 TARGET = "wasm64-unknown-unknown"
 LAYOUT = "e-m:e-p:64:64-p10:8:8-p20:8:8-i64:64-i128:128-n32:64-S128-ni:1:10:20"
-FLAGS = [
-    f"--target={TARGET}", "-mcpu=lime1", "-O3", "-ffunction-sections", "-fdata-sections", "-mllvm", "-no-trap-after-noreturn",
-    "-mllvm", "-trap-unreachable", "-mllvm", "-disable-machine-licm", "-mllvm", "-disable-postra-machine-licm",
-    "-mllvm", "-sink-common-insts=false", "-mllvm", "-expand-div-rem-bits=64", "-mllvm", "-expand-fp-convert-bits=64",
-    "--no-default-config", "-Werror",
-]
+FLAGS = [f"--target={TARGET}", "-mcpu=lime1", *retarget.OTHER_FLAGS, "-mllvm", "-expand-div-rem-bits=64", "-mllvm", "-expand-fp-convert-bits=64"]
 # For C a function is taken into its callers up to this cost, by LLVM's measure (250 of itself): the words of masks are moved in place, a
 # word of data is put by a call. No loop takes several words in a turn: that is a twentieth more text for a fiftieth fewer instructions.
 FOR_C = ["-mllvm", "-inline-threshold=168"]

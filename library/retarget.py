@@ -4,9 +4,9 @@ FOLDER/libpocket_c.a.
 
 - x86_64-linux-gnu is what `rt lib` makes in crates/pocket_c, but `rt lib` proves the libraries below anew if no check of its own has
   kept them, and the gate keeps none of those. Here `rattle build` takes the gate's (crates/*/out/rlib), and proves the crate alone.
-  It has the crate's module compiled by the clang of the folder of tools that it is given. Here that clang calls this file, which keeps
-  the module (FOLDER/module.bc), from which library/module.py makes that of the page, and calls the toolchain's own. What `rattle build` said,
-  whose last line tells what is proved, is FOLDER/build.log.
+  It has the crate's module compiled by the clang of the folder of tools that it is given. Here that clang keeps the module
+  (FOLDER/module.bc), from which library/module.py makes that of the page, and calls the toolchain's own. What `rattle build` said, whose last
+  line tells what is proved, is FOLDER/build.log.
 - aarch64-linux-gnu is a target of the toolchain: `rattle build` proves the crate for it too, and clang gets one flag more: all accesses
   are aligned.
 - riscv64-linux-gnu is none: library/retarget.py riscv64-linux-gnu FOLDER MODULE takes a module that was kept, turns its text
@@ -20,6 +20,7 @@ With POCKET_UNALIGNED=1 in the environment, accesses that are not aligned are le
 import os
 import pathlib
 import re
+import shlex
 import shutil
 import subprocess
 import sys
@@ -31,12 +32,11 @@ STRICT = ["-mno-strict-align" if os.environ.get("POCKET_UNALIGNED") else "-mstri
 
 ARM_TRIPLE, TRIPLE = "aarch64-unknown-linux-gnu", "riscv64-unknown-linux-gnu"
 LAYOUT = "e-m:e-p:64:64-i64:64-i128:128-n32:64-S128"
-# Those of the toolchain's flags for aarch64 that have a meaning on RISC-V, and the processor: rv64gc, with doubles in registers.
-RISC_V_FLAGS = [
-    f"--target={TRIPLE}", "-march=rv64gc", "-mabi=lp64d", "-O3", "-fPIC", "-ffunction-sections", "-fdata-sections",
-    "-mllvm", "-no-trap-after-noreturn", "-mllvm", "-trap-unreachable", "-mllvm", "-disable-machine-licm",
-    "-mllvm", "-disable-postra-machine-licm", "-mllvm", "-sink-common-insts=false", "--no-default-config", "-Werror",
-]
+# The toolchain's flags of clang for each target, and those that it has for all but x86-64.
+FLAGS = ["-O3", "-ffunction-sections", "-fdata-sections", "-mllvm", "-no-trap-after-noreturn", "-mllvm", "-trap-unreachable", "--no-default-config"]
+OTHER_FLAGS = [*FLAGS, "-mllvm", "-disable-machine-licm", "-mllvm", "-disable-postra-machine-licm", "-mllvm", "-sink-common-insts=false", "-Werror"]
+# The processor: rv64gc, with doubles in registers.
+RISC_V_FLAGS = [f"--target={TRIPLE}", "-march=rv64gc", "-mabi=lp64d", "-fPIC", *OTHER_FLAGS]
 
 # Attributes that name a processor, or how its stack is probed.
 ATTRIBUTES = re.compile(r' "(?:target-cpu|target-features|tune-cpu|probe-stack|stack-probe-size)"(?:="[^"]*")?')
@@ -94,14 +94,6 @@ def turn(module, folder, tools):
     return 0
 
 
-def compile_kept(words, clang, module, flags):
-    """What `rattle build` takes for clang: keeps the module that it hands on first, and compiles with these flags more."""
-    for word in words:
-        if word.endswith(".bc") and os.path.isfile(word):
-            shutil.copyfile(word, module)
-    return subprocess.run([clang, *words, *flags]).returncode
-
-
 def rows():
     """The crates, and what each stands on, of crates.txt."""
     lines = (line.partition("#")[0].partition(":") for line in pathlib.Path(TOP, "crates.txt").read_text("utf-8").splitlines())
@@ -134,7 +126,7 @@ def build_words(kit):
 
 
 def wrapped(kit, folder, flags):
-    """A folder of tools in which clang calls this file. No environment is handed to it, so what it needs is written into it."""
+    """A folder of tools, whose clang keeps the module that it is handed in a folder, and then compiles with these flags more."""
     made, tools = f"{folder}/toolchain", f"{kit}/toolchain"
     shutil.rmtree(made, ignore_errors=True)
     os.makedirs(f"{made}/bin")
@@ -143,31 +135,26 @@ def wrapped(kit, folder, flags):
         if name != "clang":
             os.symlink(f"{tools}/bin/{name}", f"{made}/bin/{name}")
     clang = pathlib.Path(made, "bin", "clang")
-    clang.write_text(f"#!{sys.executable} -B\nimport sys\nsys.path.insert(0, {TOP + '/library'!r})\nimport retarget\n"
-                     f"sys.exit(retarget.compile_kept(sys.argv[1:], {tools + '/bin/clang'!r}, {folder + '/module.bc'!r}, {flags!r}))\n", "utf-8")
+    keep = f'for word; do case "$word" in *.bc) test ! -f "$word" || cat "$word" > {shlex.quote(folder)}/module.bc;; esac; done'
+    clang.write_text(f'#!/bin/sh\n{keep}\nexec {shlex.quote(tools)}/bin/clang "$@" {" ".join(flags)}\n', "utf-8")
     clang.chmod(0o755)
     return made
 
 
-def build(folder, words):
-    """Has `rattle build` prove and build the crate into a folder; gives its status, and prints its last line."""
-    archive = f"{folder}/lib{CRATE}.a"
+def build(folder, kit, words, flags):
+    """Has `rattle build` prove and build the crate into a folder, by these words more, with the tools that `rt lib` takes and flags more for
+    clang, and keeps its module. Gives the status, and prints its last line."""
+    archive, tools = f"{folder}/lib{CRATE}.a", wrapped(kit, folder, flags)
     pathlib.Path(archive).unlink(missing_ok=True)
     os.makedirs(f"{TOP}/crates/{CRATE}/out", exist_ok=True)
     with open(f"{folder}/build.log", "w+", encoding="utf-8", errors="replace") as log:
-        ran = subprocess.run(["rattle", "build", *words, "-o", archive], cwd=f"{TOP}/crates/{CRATE}", stdout=log, stderr=subprocess.STDOUT)
+        ran = subprocess.run(["rattle", "build", *build_words(kit), *words, "--toolchain", tools, "-o", archive], cwd=f"{TOP}/crates/{CRATE}",
+                             stdout=log, stderr=subprocess.STDOUT)
         log.seek(0)
         lines = log.read().splitlines()
+    shutil.rmtree(tools)  # it has links, which the gate refuses
     print("\n".join(lines[-1:] if ran.returncode == 0 else lines[-20:]))
     return ran.returncode
-
-
-def build_with(folder, kit, words, flags):
-    """Proves and builds the crate by these words, with the tools that `rt lib` takes and with flags more for clang; keeps its module."""
-    tools = wrapped(kit, folder, flags)
-    status = build(folder, [*build_words(kit), *words, "--toolchain", tools])
-    shutil.rmtree(tools)  # it has links, which the gate refuses
-    return status
 
 
 def kit_of(is_called, text):
@@ -185,7 +172,7 @@ def main():
     if sys.argv[1] == RISC_V:
         return turn(sys.argv[3], folder, f"{kit}/toolchain/bin")
     words, flags = (["--backend", "llvm"], []) if sys.argv[1] == NATIVE else (["--target", ARM_TRIPLE], STRICT)
-    return build_with(folder, kit, words, flags)
+    return build(folder, kit, words, flags)
 
 
 if __name__ == "__main__":

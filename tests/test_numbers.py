@@ -101,7 +101,8 @@ TEXTS = {
 # Files that are wrong, or don't fit.
 WRONG = [("short", "first,last,cause,value\nend,3,3,0\n"), ("open", "first,last,cause,value\n0,0,lost,0\n"), ("rows", "first,last,cause,value\n5,3,lost,0\n"),
          ("columns", "temp,u\n1,2\n"), ("twice", "temp,temp\n1,2\n"), ("great", "temp\n128\n"), ("less", "temp,t\n1\n"), ("empty", ""), ("over", "t,temp\n1,5\n"),
-         ("many", "field,0,8,u,t\nfield,0,9,u,temp\n"), ("limits", "field,0,8,u,t\nlimit,u,1,2\n"), ("empty_row", "apid,first,last,cause,value\n101,end,0,0,0\n100\n"), ("long", "field," * 9 + "x" * 140000), ("more", "t,t,temp\n" + "".join(f"{place},1,1\n" for place in range(5)))]
+         ("many", "field,0,8,u,t\nfield,0,9,u,temp\n"), ("limits", "field,0,8,u,t\nlimit,u,1,2\n"), ("turned", "field,8,8,s,temp\nfield,0,8,u,t\n"),
+         ("empty_row", "apid,first,last,cause,value\n101,end,0,0,0\n100\n"), ("long", "field," * 9 + "x" * 140000), ("more", "t,t,temp\n" + "".join(f"{place},1,1\n" for place in range(5)))]
 WORDS, FIELDS = ["table=table", "report=report"], ["fields=fields", "bits=16"]
 INFLUX = ["as=influx", "start=1970-01-01T00:00:01Z", "step=1"]
 # What is refused, and what is told.
@@ -129,6 +130,7 @@ REFUSED = [
     ((pack, "fields=long", "bits=16", "in=over"), "long: field larger than field limit (131072)"),
     ((numbers, "table=more", "report=streams", "apid=100"), "more has 5 packets, and by streams 4 of APID 100 were restored: the table has to be that of this APID's packets alone, which restore apid=100 gives"),
     ((numbers, *WORDS, "time=x", "epoch=2000-01-01T00:00:00Z", "unit=1"), "time=x: the table has no such field"),
+    ((numbers, *WORDS, "fields=turned", "bits=16"), "the fields of turned are not those of table"),
     ((numbers, *WORDS, "unti=1"), "unti=1: did you mean unit=?"),
     ((numbers, "table=table"), "report= is missing"),
     ((pack, *FIELDS, "in=columns"), "columns: line 1, column 2: no field has the name u"),
@@ -211,6 +213,8 @@ class Numbers(LibraryTest):
         point = lambda *words: self.files.run(numbers, *words, *FIELDS, *INFLUX).splitlines()[0].decode()
         self.assertEqual(point(*WORDS), "pocket number=1i,t=1i,temp=-16i 2000000000")
         self.assertEqual(point("table=table", "report=streams", "apid=100", "tag=spacecraft:X"), "pocket,spacecraft=X,apid=100 number=1i,t=1i,temp=-16i 2000000000")
+        self.files.put("wide", "field,0,64,u,t\nfield,0,64,s,temp\n")
+        self.assertEqual(self.files.run(numbers, *WORDS, "fields=wide", "bits=64", *INFLUX).splitlines()[0], b"pocket number=1i,t=1u,temp=-16i 2000000000")
         self.assertEqual(point(*WORDS, "measurement=\u00e9t\u00e9"), "\u00e9t\u00e9 number=1i,t=1i,temp=-16i 2000000000")
         self.assertEqual(self.files.run(numbers, *WORDS, *FIELDS, *INFLUX[:2], "step=0"), "the packets 1 and 2 have one time, 1970-01-01T00:00:01Z: Influx would keep one of them alone")
 

@@ -5,6 +5,7 @@ limits, and what is missing. With a name it writes the contents there too, as `r
     ./onboard < hk.rec | python3 ground.py
 """
 
+import os
 import sys
 
 from pocket import Kind, Receiver, space_packets
@@ -21,8 +22,7 @@ def value(content, first, width, signed):
 
 
 def main():
-    restored = open(sys.argv[1], "wb") if len(sys.argv) > 1 else None
-    with Receiver(BITS) as receiver:
+    with open(sys.argv[1] if len(sys.argv) > 1 else os.devnull, "wb") as restored, Receiver(BITS) as receiver:
         for packet in space_packets(open(0, "rb", buffering=0), APID):
             arrival = receiver.receive(packet.count, packet.data)
             if arrival.lost:
@@ -33,10 +33,7 @@ def main():
                 found = value(arrival.content, first, width, signed)
                 if not low <= found <= high:
                     print(f"{arrival.number},{name},{found},{low},{high}", flush=True)
-            if restored:
-                restored.write(arrival.content)
-    if restored:
-        restored.close()
+            restored.write(arrival.content)
 
 
 if __name__ == "__main__":

@@ -88,10 +88,9 @@ def constants(code):
     return "static const uint8_t constants[] = {\n" + ",\n".join(lines) + "\n};\n"
 
 
-def joined(functions, guard=None):
-    """The prototypes and bodies of functions, left out if the guard is defined."""
-    if not functions:
-        return ""
+def joined(code, names, guard=None):
+    """The prototypes and bodies of these functions of a module, left out if the guard is defined."""
+    functions = [it for name, it in code.functions.items() if name in names]
     heads = "".join(f"{it.head()};\n" for it in functions)
     text = heads + "\n" + "\n".join(it.text for it in functions)
     return f"#ifndef {guard}\n{text}#endif\n" if guard else text
@@ -100,9 +99,8 @@ def joined(functions, guard=None):
 def generated(code, states):
     """The functions of the calls: those of both, of a sender alone, of a receiver alone, and of states, which reach the caller's memory too."""
     send, receive, kept = code.reached(SENDER), code.reached(RECEIVER), states.reached(STATES)
-    of = lambda names, module=code: [it for name, it in module.functions.items() if name in names]
-    return (joined(of(send & receive)) + joined(of(send - receive), "POCKET_NO_SENDER") + joined(of(receive - send), "POCKET_NO_RECEIVER")
-            + f"{text_of('anywhere.c')}" + joined(of(kept, states), "POCKET_NO_STATES"))
+    return (joined(code, send & receive) + joined(code, send - receive, "POCKET_NO_SENDER") + joined(code, receive - send, "POCKET_NO_RECEIVER")
+            + text_of("anywhere.c") + joined(states, kept, "POCKET_NO_STATES"))
 
 
 def quiet(text):
@@ -132,8 +130,11 @@ def calls(kept, kit):
 
 def keys_of_verbs():
     """For each verb its keys in order, each with the numbers that it takes, or nothing (crates/pocket_cmd/src/verbs.rt)."""
-    rows = dict(re.findall(r"Verb::(\w+) => &\[(.*?)\],", text_of("crates/pocket_cmd/src/verbs.rt", TOP), re.S))
-    bounds = lambda kind: tuple(it.replace("_", "").replace("u32::MAX", str(2**32 - 1)) for it in re.findall(r"[\w:]+", kind)[1:]) if kind.startswith("Number") else ()
+    text = text_of("crates/pocket_cmd/src/verbs.rt", TOP).replace("u32::MAX", str(2**32 - 1))
+    for name, number in re.findall(r"^pub const (\w+): u32 = ([\d_]+);$", text_of("crates/bit_vectors/src/bits.rt", TOP), re.M):
+        text = re.sub(rf"\b{name}\b", number, text)
+    rows = dict(re.findall(r"Verb::(\w+) => &\[(.*?)\],", text, re.S))
+    bounds = lambda kind: tuple(map(int, re.findall(r"\w+", kind)[1:])) if kind.startswith("Number") else ()
     return {verb.lower(): [(key, bounds(kind)) for key, kind in re.findall(r'(?:Needed|Optional)\("(\w+)", (.*)\),', text)] for verb, text in rows.items()}
 
 
@@ -167,7 +168,7 @@ def program(kept, kit):
     numbers = {"STACK_TOP": f"{code.top}u", "HEAP_BASE": f"{code.heap}u", "CONSTANT_BYTES": len(code.data), "STACK_BYTES": f"{PROGRAM_STACK}u",
                "VERSION": f'"{version()}"'}
     named = "".join(f"#define {name} {value}\n" for name, value in numbers.items())
-    text = joined([it for name, it in code.functions.items() if name in code.reached(DESK)])
+    text = joined(code, code.reached(DESK))
     head = text_of("program_head.c").replace("@VERSION@", version())
     before = [head, named, constants(code) + text_of("machine.c"), text_of("allocator.c")]
     return "\n".join([*before, quiet(text), helps(), text_of("files.c"), text_of("program.c")])

@@ -11,8 +11,9 @@ A line of any other form is an error, so another wabt is not taken by chance. No
 largest sum of frames on a way of calls.
 """
 
+import graphlib
 import re
-from dataclasses import dataclass, field
+from dataclasses import dataclass
 
 import joined
 
@@ -21,27 +22,33 @@ VALUE = r"w2c_[ijlp]\d+"
 
 HEAD = re.compile(r"^static (void|u32|u64) w2c_(\w+)\(Z_pocket_instance_t\* instance((?:, u(?:32|64) w2c_p\d+)*)\) \{$", re.M)
 LOCALS = re.compile(rf"^  (?:u32|u64) {VALUE}(?: = 0)?(?:, {VALUE}(?: = 0)?)*;$")
-LOAD = re.compile(rf"^({VALUE}) = (i(?:32|64)_load(?:8_u|8_s|16_u|16_s|32_u|32_s)?)\({MEMORY}, \(u64\)\((w2c_i\d+)\)(?: \+ (\d+)u)?\);$")
-STORE = re.compile(rf"^(i(?:32|64)_store(?:8|16|32)?)\({MEMORY}, \(u64\)\((w2c_i\d+)\)(?: \+ (\d+))?, ({VALUE})\);$")
-BULK = re.compile(rf"^memory_(fill|copy)\((?:{MEMORY}, )+({VALUE}), ({VALUE}), ({VALUE})\);$")
-CALL = re.compile(rf"^(?:({VALUE}) = )?w2c_(\w+)\(instance((?:, {VALUE})*)\);$")
-IMPORT = re.compile(rf"^(?:({VALUE}) = )?\(\*Z_envZ_rattle_(alloc|realloc|dealloc|place)\)\(instance->Z_env_instance((?:, {VALUE})*)\);$")
-EQUAL = re.compile(rf"^({VALUE}) = \(\*Z_envZ_rattle_equal\)\(instance->Z_env_instance, ({VALUE}), ({VALUE}), ({VALUE})\);$")
-TURN = re.compile(rf"^({VALUE}) = \(\*Z_envZ_rattle_(turn(?:32|64))\)\(instance->Z_env_instance, ({VALUE})\);$")
-DIVISION = re.compile(rf"^({VALUE}) = (DIV|REM)_U\(({VALUE}), ({VALUE})\);$")
-STACK = re.compile(rf"^instance->w2c_g0 = ({VALUE});$")
-COUNT = re.compile(rf"^{VALUE} = I(?:32|64)_(?:CLZ|CTZ|POPCNT)\({VALUE}\);$|^{VALUE} = I(?:32|64)_ROT[LR]\({VALUE}, {VALUE}\);$")
 CAST = r"(?:\((?:u|s)(?:8|16|32|64)\))*"
 GOTO = r"goto w2c_[BL](?:\d+|func);"
 SIGNED = rf"\(\(s(?:32|64)\){VALUE} (?:>>|<|>|<=|>=) \(?(?:\(s(?:32|64)\))?{VALUE}(?: & (?:31|63)\))?\)"
 # What stays as it is.
 PLAIN = re.compile("|".join((
-    rf"^{VALUE} (?:=|\+=|-=|\*=|&=|\|=|\^=) {CAST}\(?{VALUE}\)?;$", rf"^{VALUE} = \d+u(?:ll)?;$", rf"^{VALUE} = !\({VALUE}\);$",
-    rf"^{VALUE} (?:<<|>>)= \({VALUE} & (?:31|63)\);$", rf"^{VALUE} = \(u(?:32|64)\){SIGNED};$",
-    rf"^{VALUE} = {VALUE} (?:==|!=|<|>|<=|>=) {VALUE};$", rf"^{VALUE} = {VALUE} \? {VALUE} : {VALUE};$",
-    rf"^if \(w2c_i\d+\) \{{{GOTO}\}}$", rf"^{GOTO}$", r"^switch \(w2c_i\d+\) \{$", rf"^case \d+: {GOTO}$", rf"^default: {GOTO}$",
-    r"^\}$", r"^$", r"^return w2c_[ij]0;$")))
-LABEL = re.compile(r"^w2c_[BL](?:\d+|func):;?$")
+    rf"{VALUE} (?:=|\+=|-=|\*=|&=|\|=|\^=) {CAST}\(?{VALUE}\)?;", rf"{VALUE} = \d+u(?:ll)?;", rf"{VALUE} = !\({VALUE}\);",
+    rf"{VALUE} (?:<<|>>)= \({VALUE} & (?:31|63)\);", rf"{VALUE} = \(u(?:32|64)\){SIGNED};",
+    rf"{VALUE} = {VALUE} (?:==|!=|<|>|<=|>=) {VALUE};", rf"{VALUE} = {VALUE} \? {VALUE} : {VALUE};",
+    rf"{VALUE} = I(?:32|64)_(?:CLZ|CTZ|POPCNT)\({VALUE}\);", rf"{VALUE} = I(?:32|64)_ROT[LR]\({VALUE}, {VALUE}\);", rf"enter(?:_leaf)?\({VALUE}, \d+\);",
+    rf"if \(w2c_i\d+\) \{{{GOTO}\}}", rf"{GOTO}", r"w2c_[BL](?:\d+|func):;?", r"switch \(w2c_i\d+\) \{", rf"case \d+: {GOTO}", rf"default: {GOTO}",
+    r"\}", r"return w2c_[ij]0;")))
+# All else: a form, and the statement that stands in its place in a module of this name.
+ENGINE = r"\)\(instance->Z_env_instance"
+RULES = [(re.compile(form), statement) for form, statement in (
+    (rf"({VALUE}) = (i(?:32|64)_load(?:8_u|8_s|16_u|16_s|32_u|32_s)?)\({MEMORY}, \(u64\)\((w2c_i\d+)\)(?: \+ (\d+)u)?\);",
+     lambda it, _: f"{it[2]}({it[1]}, {it[3]}, {it[4] or 0});"),
+    (rf"(i(?:32|64)_store(?:8|16|32)?)\({MEMORY}, \(u64\)\((w2c_i\d+)\)(?: \+ (\d+))?, ({VALUE})\);",
+     lambda it, _: f"{it[1]}({it[4]}, {it[2]}, {it[3] or 0});"),
+    (rf"memory_(fill|copy)\((?:{MEMORY}, )+({VALUE}, {VALUE}, {VALUE})\);", lambda it, _: f"memory_{it[1]}({it[2]});"),
+    (rf"({VALUE} = )?w2c_(\w+)\(instance((?:, {VALUE})*)\);", lambda it, name: f"call({it[1] or ''}{name}_{it[2]}(m, last{it[3]}));"),
+    (rf"({VALUE} = )?\(\*Z_envZ_rattle_(alloc|realloc|dealloc|place){ENGINE}((?:, {VALUE})*)\);",
+     lambda it, _: f"call({it[1] or ''}heap_{it[2]}(m, last{it[3]}));"),
+    (rf"({VALUE}) = \(\*Z_envZ_rattle_equal{ENGINE}((?:, {VALUE}){{3}})\);", lambda it, _: f"memory_equal({it[1]}{it[2]});"),
+    (rf"({VALUE}) = \(\*Z_envZ_rattle_(turn(?:32|64)){ENGINE}, ({VALUE})\);", lambda it, _: f"{it[1]} = {it[2]}({it[3]});"),
+    (rf"({VALUE}) = (DIV|REM)_U\(({VALUE}, {VALUE})\);", lambda it, _: f"{it[2].lower()}_u({it[1]}, {it[3]});"),
+    (rf"instance->w2c_g0 = ({VALUE});", lambda it, _: f"set_stack({it[1]});"),
+    (r"UNREACHABLE;", lambda *_: "goto trap;"))]
 ENTRY = re.compile(
     r"^  w2c_j0 = instance->w2c_g0;\n  w2c_j1 = (\d+)ull;\n  w2c_j0 -= w2c_j1;\n  (w2c_[lp]\d+) = w2c_j0;\n(  instance->w2c_g0 = w2c_j0;\n)?", re.M)
 # The cases of a switch, and whither all other numbers lead: a case that leads there too is left out.
@@ -60,15 +67,15 @@ class OtherForm(Exception):
 
 @dataclass
 class Function:
-    """A function of the module: its text, whom it calls, and the bytes of its frame."""
+    """A function of the module: whom it calls, its text, and the bytes of its frame."""
 
     name: str
     result: str
     parameters: str
     module: str
+    calls: set
     text: str = ""
     frame: int = 0
-    calls: set = field(default_factory=set)
 
     def head(self):
         return f"static {self.result} {self.module}_{self.name}(uint8_t *const m, const u32 last{self.parameters})"
@@ -93,17 +100,13 @@ class Module:
 
     def deepest(self, roots):
         """The most bytes of the stack that a call of one of these takes."""
-        known = {}
-
-        def depth(name, above):
-            if name in above:
-                raise OtherForm(f"{name} calls itself")
-            if name not in known:
-                one = self.functions[name]
-                known[name] = one.frame + max((depth(it, above | {name}) for it in one.calls), default=0)
-            return known[name]
-
-        return max(depth(it, frozenset()) for it in roots)
+        depths, calls = {}, {it: self.functions[it].calls for it in self.reached(roots)}
+        try:
+            for name in graphlib.TopologicalSorter(calls).static_order():
+                depths[name] = self.functions[name].frame + max((depths[it] for it in calls[name]), default=0)
+        except graphlib.CycleError as error:
+            raise OtherForm(f"{error.args[1][0]} calls itself") from None
+        return max(depths[it] for it in roots)
 
 
 def short(text):
@@ -113,29 +116,11 @@ def short(text):
 
 def made(function, line):
     """A statement of the generated part."""
-    if LABEL.match(line) or COUNT.match(line) or PLAIN.match(line):
+    if PLAIN.fullmatch(line):
         return line
-    if found := LOAD.match(line):
-        return f"{found[2]}({found[1]}, {found[3]}, {found[4] or 0});"
-    if found := STORE.match(line):
-        return f"{found[1]}({found[4]}, {found[2]}, {found[3] or 0});"
-    if found := BULK.match(line):
-        return f"memory_{found[1]}({found[2]}, {found[3]}, {found[4]});"
-    if found := IMPORT.match(line):
-        return f"call({found[1] + ' = ' if found[1] else ''}heap_{found[2]}(m, last{found[3]}));"
-    if found := EQUAL.match(line):
-        return f"memory_equal({found[1]}, {found[2]}, {found[3]}, {found[4]});"
-    if found := CALL.match(line):
-        function.calls.add(found[2])
-        return f"call({found[1] + ' = ' if found[1] else ''}{function.module}_{found[2]}(m, last{found[3]}));"
-    if found := TURN.match(line):
-        return f"{found[1]} = {found[2]}({found[3]});"
-    if found := DIVISION.match(line):
-        return f"{found[2].lower()}_u({found[1]}, {found[3]}, {found[4]});"
-    if found := STACK.match(line):
-        return f"set_stack({found[1]});"
-    if line == "UNREACHABLE;":
-        return "goto trap;"
+    for form, statement in RULES:
+        if found := form.fullmatch(line):
+            return statement(found, function.module)
     raise OtherForm(f"{function.name}: {line!r}")
 
 
@@ -159,7 +144,7 @@ def frame_of(function, text):
     if text.count("= instance->w2c_g0;") != 1:
         raise OtherForm(f"{function.name} has another frame")
     word = "enter" if entry[3] else "enter_leaf"
-    return ENTRY.sub(f"  @{word}({entry[2]}, {entry[1]});\n  w2c_j0 = {entry[2]};\n", text)
+    return ENTRY.sub(f"  {word}({entry[2]}, {entry[1]});\n  w2c_j0 = {entry[2]};\n", text)
 
 
 def filled(function, text, joins):
@@ -170,9 +155,7 @@ def filled(function, text, joins):
         if LOCALS.match(line):
             locals_.append(short(line))
         elif line.strip() not in ("FUNC_PROLOGUE;", "FUNC_EPILOGUE;", ""):
-            depth = re.match(r" *", line)[0]
-            text = line.strip()
-            lines.append(depth + short(text[1:] if text.startswith("@") else made(function, text)))
+            lines.append(re.match(" *", line)[0] + short(made(function, line.strip())))
     last = "  return;" if function.result == "void" else "  return 0;"
     end = ["  return;"] if function.result == "void" else []
     text = "\n".join([*locals_, *(joined.of(lines) if joins else lines), *end, "  trap:", "  set_broken(m);", last])
@@ -183,9 +166,9 @@ def functions_of(text, name, joins):
     """The functions of a module, by name."""
     found = {}
     for head in HEAD.finditer(text):
-        function = Function(head[2], head[1], short(head[3]), name)
-        filled(function, text[head.end() + 1:text.index("\n}\n", head.end())], joins)
-        found[function.name] = function
+        body = text[head.end() + 1:text.index("\n}\n", head.end())]
+        found[head[2]] = Function(head[2], head[1], short(head[3]), name, set(re.findall(r"\bw2c_(\w+)\(instance", body)))
+        filled(found[head[2]], body, joins)
     return found
 
 

@@ -18,15 +18,6 @@ typedef union words {
     } half;
 } words;
 
-uint64_t HELPER(ashldi3)(uint64_t value, int by);
-uint64_t HELPER(lshrdi3)(uint64_t value, int by);
-uint32_t HELPER(bswapsi2)(uint32_t value);
-uint64_t HELPER(bswapdi2)(uint64_t value);
-int HELPER(clzsi2)(uint32_t value);
-int HELPER(clzdi2)(uint64_t value);
-int HELPER(ctzsi2)(uint32_t value);
-int HELPER(ctzdi2)(uint64_t value);
-
 uint64_t HELPER(ashldi3)(uint64_t value, int by)
 {
     words from, to;

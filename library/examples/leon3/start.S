@@ -11,6 +11,12 @@
         nop
         .endm
 
+        .macro  settle                  ! what is written to a register of the processor's state counts three instructions later
+        nop
+        nop
+        nop
+        .endm
+
         .section .traps, "ax"
         .align  4096
         .global traps
@@ -30,24 +36,16 @@ traps:
 start:
         wr      %g0, PSR_SUPERVISOR, %psr
         wr      %g0, 2, %wim            ! window 1 is the one that stays free
-        sethi   %hi(traps), %g1
-        or      %g1, %lo(traps), %g1
+        set     traps, %g1
         wr      %g1, 0, %tbr
-        nop
-        nop
-        nop
-        sethi   %hi(stack_top), %sp
-        or      %sp, %lo(stack_top), %sp
+        settle
+        set     stack_top, %sp
         sub     %sp, 96, %sp
         mov     %g0, %fp
         wr      %g0, PSR_SUPERVISOR | PSR_TRAPS, %psr
-        nop
-        nop
-        nop
-        sethi   %hi(bss_begins), %o0
-        or      %o0, %lo(bss_begins), %o0
-        sethi   %hi(bss_ends), %o1
-        or      %o1, %lo(bss_ends), %o1
+        settle
+        set     bss_begins, %o0
+        set     bss_ends, %o1
 1:      cmp     %o0, %o1
         bgeu    2f
         nop
@@ -63,9 +61,7 @@ start:
         .global halt
 halt:
         wr      %g0, PSR_SUPERVISOR, %psr
-        nop
-        nop
-        nop
+        settle
 stop:
         ta      0
         ba      stop
@@ -80,9 +76,7 @@ spill:
         or      %l4, %g1, %g1
         save
         wr      %g1, 0, %wim
-        nop
-        nop
-        nop
+        settle
         std     %l0, [%sp]
         std     %l2, [%sp + 8]
         std     %l4, [%sp + 16]
@@ -103,9 +97,7 @@ fill:
         srl     %l3, WINDOWS - 1, %l5
         or      %l5, %l4, %l5
         wr      %l5, 0, %wim
-        nop
-        nop
-        nop
+        settle
         restore
         restore
         ldd     [%sp], %l0

@@ -1,7 +1,3 @@
-"""The tool `advise`: what it does is told by HELP."""
-
-from __future__ import annotations
-
 HELP = """python3 -m pocket advise packets=N script=S rows=K [plan=P] [shift=M]: a small `robust` with which few rows make all safe that arrives.
 
     python3 -m pocket advise packets=1000 script=fades.csv rows=3 shift=10 out=pass.csv
@@ -30,7 +26,6 @@ from typing import Iterator, List, NamedTuple, Optional, Sequence, Set, Tuple
 
 from . import PocketError
 from . import run as command
-from .library import library
 from .tool import ToolError, contents, given, number_of, outputs
 
 KEYS = ("packets", "script", "rows", "plan", "shift", "out", "report")
@@ -59,13 +54,10 @@ def forecast(packets: int, robust: int, plan: bytes, script: bytes) -> str:
     """The forecast of a pass."""
     words = ("forecast", f"packets={packets}", f"robust={robust}")
     try:
-        is_there = hasattr(library, "pocket_desk_open")
-    except (OSError, PocketError):
-        is_there = False
-    if not is_there:
-        return by_program(words, plan, script)
-    try:
         return command(*words, "out=out", "plan=plan", "script=script", inputs={"plan": plan, "script": script})["out"].decode()
+    except (OSError, AttributeError):
+        # (the library isn't there, or has no desk)
+        return by_program(words, plan, script)
     except PocketError as refusal:
         raise ToolError(str(refusal)) from refusal
 
@@ -147,8 +139,6 @@ def run(words: List[str]) -> int:
     """Writes the schedule, and tells what it is for."""
     said = given(words, KEYS, ["packets", "script", "rows"])
     packets, most, shift = number_of(said, "packets", 1, 1_000_000) or 1, number_of(said, "rows", 0, 1000) or 0, number_of(said, "shift", 0, 1000) or 0
-    if said.get("plan") == said["script"] == "-":
-        raise ToolError("standard input is one file")
     with outputs("advise", said, [said[key] for key in ("plan", "script") if key in said]) as (out, tell):
         plan, script = contents(said["plan"]) if "plan" in said else b"", contents(said["script"])
         # (a wrong row is refused before rows are shifted)

@@ -1,14 +1,13 @@
 """Senders, receivers and desks in memory, each over a handle of the library."""
 
-from __future__ import annotations
-
+import contextlib
 import ctypes
 import enum
 import operator
 from dataclasses import dataclass
 from typing import Any, Callable, Mapping, Optional, Type, TypeVar, Union, overload
 
-from .errors import BitsOutOfRange, CountOutOfRange, NoState, NotText, Refused, RobustnessOutOfRange, TooManyWords, done
+from .errors import BitsOutOfRange, CountOutOfRange, NoState, NotKept, NotText, Refused, RobustnessOutOfRange, TooManyWords, done
 from .held import Held, alone
 from .library import Finding, Tally, library
 
@@ -30,16 +29,18 @@ def _bits(bits: int) -> int:
     return _in_range(bits, MOST_BITS, BitsOutOfRange, "a vector has 1 to 49152 places")
 
 
-def _taken(content: Data) -> bytes:
-    """The bytes of what has a buffer, taken once: what an object says of its length is not asked."""
-    return memoryview(content).tobytes()
+def _bytes(content: Data) -> tuple[bytes, int]:
+    """The bytes of what has a buffer, taken once, and how many they are: what an object says of its length is not asked."""
+    own = memoryview(content).tobytes()
+    return own, len(own)
 
 
-def _utf8(text: str) -> bytes:
+def _utf8(text: str) -> tuple[bytes, int]:
+    """A name or an argument, and its length."""
     if not isinstance(text, str):
         raise TypeError(f"a name or an argument is a text, and not {type(text).__name__}")
     try:
-        return text.encode()
+        return _bytes(text.encode())
     except UnicodeEncodeError:
         raise NotText("it is not UTF-8") from None
 
@@ -140,12 +141,11 @@ class _Kept(Held):
 
     @alone
     def _load(self, state: Data) -> None:
-        own = _taken(state)
-        done(library.pocket_load(self._handle, own, len(own)))
+        done(library.pocket_load(self._handle, *_bytes(state)))
 
     @classmethod
     def _loaded(cls: Type[_State], state: Data) -> _State:
-        own = _taken(state)
+        own, _ = _bytes(state)
         bits = int.from_bytes(own[6:10], "big")
         if not 1 <= bits <= MOST_BITS:
             raise NoState("it is no state")
@@ -153,7 +153,7 @@ class _Kept(Held):
         held._load(own)
         return held
 
-    def __reduce_ex__(self, _: Any) -> Any:
+    def __reduce_ex__(self, *_: Any) -> Any:
         return type(self)._loaded, (self.save(),)
 
 
@@ -178,28 +178,27 @@ class Sender(_Kept):
 
     def __init__(self, bits: int, mask: Data = b"") -> None:
         super().__init__(bits)
-        own = _taken(mask)
-        done(library.pocket_sender_open(self._handle, _bits(bits), own, len(own)))
+        own = _bytes(mask)
+        done(library.pocket_sender_open(self._handle, _bits(bits), *own))
         self._most = (10 * bits + 50) // 8
         self._made = self._asked = _Packet(1)
 
     @alone
     def reset(self, mask: Data = b"") -> None:
         """Begins a new stream, as a new sender of as many bits with this first mask does, in the memory that it has."""
-        own = _taken(mask)
-        done(library.pocket_sender_reset(self._handle, own, len(own)))
+        done(library.pocket_sender_reset(self._handle, *_bytes(mask)))
 
     @alone
     def send(self, content: Data, robustness: int = 0, *, new_mask: bool = False, send_mask: bool = False, whole: bool = False) -> Sent:
         """The packet of the next input, of ceil(bits / 8) bytes, with a required robustness of 0 to 7 packets."""
-        own = _taken(content)
+        own = _bytes(content)
         robustness = _in_range(robustness, 255, RobustnessOutOfRange, "the required robustness is above 7")
         packet = _Packet(self._most)
         if self._asked.is_made:
             self._made = self._asked
         self._asked = packet
-        done(library.pocket_send(self._handle, own, len(own), bool(new_mask), bool(send_mask), bool(whole), robustness, packet.data,
-                                 len(packet.data), packet.length, packet.level))
+        done(library.pocket_send(self._handle, *own, bool(new_mask), bool(send_mask), bool(whole), robustness, packet.data, len(packet.data),
+                                 packet.length, packet.level))
         return packet.made()
 
     @alone
@@ -253,13 +252,13 @@ class Receiver(_Kept):
     @alone
     def receive(self, count: int, data: Data) -> Arrival:
         """What is found of the next packet that arrived, by its sequence count, 0 to 16,383, and at most 65,536 bytes of data."""
-        own = _taken(data)
+        own = _bytes(data)
         count = _in_range(count, 65535, CountOutOfRange, "the sequence count is above 16383")
         finding = _Finding(self._size)
         if self._asked.is_made:
             self._judged = self._asked
         self._asked = finding
-        done(library.pocket_receive(self._handle, count, own, len(own), finding.content, self._size, finding.found))
+        done(library.pocket_receive(self._handle, count, *own, finding.content, self._size, finding.found))
         return finding.made()
 
     @alone
@@ -293,8 +292,7 @@ class Desk(Held):
     @alone
     def put(self, name: str, content: Data) -> None:
         """Keeps bytes under a name, in place of what was kept under it."""
-        coded, own = _utf8(name), _taken(content)
-        done(library.pocket_put(self._handle, coded, len(coded), own, len(own)))
+        done(library.pocket_put(self._handle, *_utf8(name), *_bytes(content)))
 
     @alone
     def run(self, *words: str) -> None:
@@ -304,10 +302,9 @@ class Desk(Held):
         if len(coded) > 1000:
             raise TooManyWords("the command has too many arguments")
         for word in coded:
-            status = library.pocket_word(self._handle, word, len(word))
-            if status:
+            if status := library.pocket_word(self._handle, *word):
                 self._close(self._handle)
-            done(status)
+                done(status)
         text, length, exit_number = ctypes.create_string_buffer(128), ctypes.c_size_t(), ctypes.c_uint8()
         done(library.pocket_run(self._handle, text, len(text), length, exit_number))
         if exit_number.value:
@@ -316,36 +313,31 @@ class Desk(Held):
     @alone
     def get(self, name: str) -> bytes:
         """What is kept under a name: no byte if nothing is kept under it."""
-        coded = _utf8(name)
-        found = self._found(library.pocket_get, coded, len(coded))
-        assert found is not None
-        return found
+        return self._found(library.pocket_get, *_utf8(name))
 
     @alone
     def remove(self, name: str) -> None:
         """Removes what is kept under a name, and gives its memory back. Raises `NotKept` if nothing is kept under it."""
-        coded = _utf8(name)
-        done(library.pocket_remove(self._handle, coded, len(coded)))
+        done(library.pocket_remove(self._handle, *_utf8(name)))
 
     @alone
     def names(self) -> list[str]:
         """The names under which something is kept, in the order of their bytes."""
-        names: list[str] = []
-        name = self._found(library.pocket_name_from, b"", 0)
-        while name is not None:
-            names.append(name.decode())
-            name = self._found(library.pocket_name_from, name + b"\0", len(name) + 1)
+        names, least = [], b""
+        with contextlib.suppress(NotKept):
+            while True:
+                name = self._found(library.pocket_name_from, least, len(least))
+                names.append(name.decode())
+                least = name + b"\0"
         return names
 
-    def _found(self, call: Any, text: bytes, size: int) -> Optional[bytes]:
-        """The bytes that a call gives, in a room that is long enough: None if no such name is kept."""
+    def _found(self, call: Any, text: bytes, size: int) -> bytes:
+        """The bytes that a call gives, in a room that is long enough."""
         length, room, status = ctypes.c_size_t(128), 0, 11
         while status == 11 and room != length.value:
             room = length.value
             found = ctypes.create_string_buffer(room)
             status = call(self._handle, text, size, found, room, length)
-        if status == 17:
-            return None
         done(status)
         return ctypes.string_at(found, length.value)
 

@@ -1,6 +1,6 @@
 """What a call that is refused raises."""
 
-from __future__ import annotations
+from .library import library
 
 
 class PocketError(Exception):
@@ -87,33 +87,12 @@ class StoreError(PocketError, ValueError):
     """Bytes that are no Space Packets, or none of whole packets."""
 
 
-# What each answer of the library is here, with the text that `pocket_status_text` gives of it.
-REFUSED = {
-    1: (OutOfMemory, "out of memory"),
-    2: (Closed, "it is closed"),
-    3: (PocketError, "it is open"),
-    4: (PocketError, "it holds something of another kind"),
-    5: (BitsOutOfRange, "a vector has 1 to 49152 places"),
-    6: (WrongLength, "the mask has the wrong length"),
-    7: (SpareBitSet, "the mask has a spare bit set"),
-    8: (WrongLength, "the input has the wrong length"),
-    9: (SpareBitSet, "the input has a spare bit set"),
-    10: (RobustnessOutOfRange, "the required robustness is above 7"),
-    11: (PocketError, "the room is too short"),
-    12: (TooManyPackets, "too many packets"),
-    13: (CountOutOfRange, "the sequence count is above 16383"),
-    14: (TooLong, "the packet is too long"),
-    15: (NotText, "it is not UTF-8"),
-    16: (TooManyWords, "the command has too many arguments"),
-    17: (NotKept, "no such name is kept"),
-    252: (NoState, "it is no state"),
-    253: (NoState, "it is a state of the other kind or of other bits"),
-    254: (Broken, "its memory was damaged"),
-}
+# What the answers of the library (pocket_status, pocket.h) raise. All others are PocketErrors.
+REFUSED = {1: OutOfMemory, 2: Closed, 5: BitsOutOfRange, 6: WrongLength, 7: SpareBitSet, 8: WrongLength, 9: SpareBitSet, 10: RobustnessOutOfRange,
+           12: TooManyPackets, 13: CountOutOfRange, 14: TooLong, 15: NotText, 16: TooManyWords, 17: NotKept, 252: NoState, 253: NoState, 254: Broken}
 
 
 def done(status: int) -> None:
-    """Raises what an answer stands for, unless the call was done."""
+    """Raises what an answer stands for, with the library's text of it, unless the call was done."""
     if status:
-        kind, text = REFUSED.get(status, (PocketError, f"status {status}"))
-        raise kind(text)
+        raise REFUSED.get(status, PocketError)(library.pocket_status_text(status).decode())

@@ -1,7 +1,5 @@
 """The parameter file of the command `table`: fields of a packet, and their limits."""
 
-from __future__ import annotations
-
 import csv
 import io
 import re
@@ -30,9 +28,9 @@ class Field(NamedTuple):
 
 @dataclass
 class Fields:
-    """The fields in the order of their rows, and the low and high of those that have limits."""
+    """The fields by name, in the order of their rows, and the low and high of those that have limits."""
 
-    fields: List[Field] = field(default_factory=list)
+    fields: Dict[str, Field] = field(default_factory=dict)
     limits: Dict[str, Tuple[int, int]] = field(default_factory=dict)
 
     def take(self, row: List[str], bits: int) -> str:
@@ -45,19 +43,18 @@ class Fields:
 
     def take_field(self, row: List[str], bits: int) -> str:
         place, width = whole_number(row[1], 0, bits - 1), whole_number(row[2], 1, 64)
-        names = [one.name for one in self.fields]
         if place is None or width is None or place + width > bits:
             return f"its bits are not within the {bits} of a packet, 64 at most"
         if row[3] not in ("u", "s") or not NAME.fullmatch(row[4]):
             return "its kind is u or s, and its name 1 to 32 letters, digits or _, the first a letter"
-        if row[4] in names or len(names) == MOST_FIELDS:
-            return f"the name {row[4]} has a row already" if row[4] in names else f"there are {MOST_FIELDS} fields already"
-        self.fields.append(Field(row[4], place, width, row[3] == "s"))
+        if row[4] in self.fields or len(self.fields) == MOST_FIELDS:
+            return f"the name {row[4]} has a row already" if row[4] in self.fields else f"there are {MOST_FIELDS} fields already"
+        self.fields[row[4]] = Field(row[4], place, width, row[3] == "s")
         return ""
 
     def take_limit(self, row: List[str]) -> str:
         low, high = whole_number(row[2], LEAST, MOST), whole_number(row[3], LEAST, MOST)
-        if row[1] not in [one.name for one in self.fields] or row[1] in self.limits:
+        if row[1] not in self.fields or row[1] in self.limits:
             return f"no row before it has the field {row[1]}, or it has a limit already"
         if low is None or high is None or low > high:
             return f"its low and high are numbers from {LEAST} to {MOST}, the low at most the high"
@@ -74,8 +71,7 @@ def fields_of(name: str, bits: int) -> Fields:
     found = Fields()
     try:
         for place, row in enumerate((row for row in csv.reader(io.StringIO(text)) if row), 1):
-            wrong = found.take(row, bits)
-            if wrong:
+            if wrong := found.take(row, bits):
                 raise ToolError(f"{name}: row {place}, {','.join(row)}: {wrong}")
     except csv.Error as error:
         raise ToolError(f"{name}: {error}") from error

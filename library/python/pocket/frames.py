@@ -1,7 +1,3 @@
-"""The tool `frames`: what it does is told by HELP."""
-
-from __future__ import annotations
-
 HELP = """python3 -m pocket frames length=N [vcid=N] [scid=N] [sync=1] [control=1]: takes the Space Packets of one virtual channel out of TM
 Transfer Frames.
 
@@ -69,43 +65,24 @@ def frame_of(place: int, whole: bytes, has_control: bool) -> Frame:
     return Frame(place, whole[3], first, whole[start:end], whole)
 
 
-def is_whole(frame: bytes) -> bool:
-    """Whether the error control of a frame is right: the remainder by x^16 + x^12 + x^5 + 1, begun with ones."""
-    return binascii.crc_hqx(frame, 0xFFFF) == 0
-
-
-def plain(source: BinaryIO, length: int, tell: Tell, _: Counter[str]) -> Iterator[Tuple[int, bytes]]:
-    """Frames without marks, each with the byte at which it begins."""
-    at = 0
-    while whole := read(source, length):
-        if len(whole) < length:
-            tell(f"the frame at byte {at} is cut: it is left out")
-            return
-        yield at, whole
-        at += length
-
-
-def marked(source: BinaryIO, length: int, tell: Tell, sums: Counter[str]) -> Iterator[Tuple[int, bytes]]:
-    """Frames after marks, each with the byte at which its mark begins. Bytes before a mark are left out."""
-    at, stray, ahead, size = 0, 0, b"", length + len(MARK)
-    while True:
-        ahead += read(source, size - len(ahead))
-        is_end, found = len(ahead) < size, ahead.find(MARK)
-        skip = found if found >= 0 else len(ahead) if is_end else len(ahead) - len(MARK) + 1
+def framed(source: BinaryIO, length: int, mark: bytes, tell: Tell, sums: Counter[str]) -> Iterator[Tuple[int, bytes]]:
+    """Frames, each after its mark if they have marks, and with the byte at which it begins. Bytes before a mark are left out."""
+    at, stray, ahead, size = 0, 0, b"", length + len(mark)
+    while ahead := ahead + read(source, size - len(ahead)):
+        is_end, found = len(ahead) < size, ahead.find(mark)
+        # (a mark may begin in the last bytes, if more come)
+        skip = found if found >= 0 else len(ahead) if is_end else len(ahead) - len(mark) + 1
         at, stray, ahead = at + skip, stray + skip, ahead[skip:]
         if stray and (found >= 0 or is_end):
             sums["stray"] += 1
             tell(f"{stray} bytes at byte {at - stray} are no frame: no mark begins there")
             stray = 0
-        if found >= 0:
-            ahead += read(source, size - len(ahead))
-            if len(ahead) == size:
-                yield at, ahead[len(MARK):]
-                at, ahead = at + size, b""
-                continue
+        if found == 0 and is_end:
             tell(f"the frame at byte {at} is cut: it is left out")
-        if is_end or found >= 0:
             return
+        if found == 0:
+            yield at, ahead[len(mark):]
+            at, ahead = at + size, b""
 
 
 @dataclass
@@ -116,14 +93,13 @@ class Packets:
     sums: Counter[str]
     has_control: bool
     gathered: bytes = b""
-    is_within: bool = False
     latest: Optional[Frame] = None
 
     def drop(self, why: str) -> None:
         """Gives up the packet that isn't whole."""
-        cut = f", which cuts a packet of which {len(self.gathered)} bytes came: it is left out" if self.is_within else ""
-        self.sums["cut"] += self.is_within
-        self.gathered, self.is_within = b"", False
+        cut = f", which cuts a packet of which {len(self.gathered)} bytes came: it is left out" if self.gathered else ""
+        self.sums["cut"] += bool(self.gathered)
+        self.gathered = b""
         self.tell(why + cut)
 
     def missing(self, frame: Frame) -> bool:
@@ -150,14 +126,14 @@ class Packets:
         self.latest = frame
         if frame.first == IDLE_DATA:
             self.sums["idle"] += 1
-            if self.is_within:
+            if self.gathered:
                 self.drop(f"the frame at byte {frame.place} has idle data alone")
             return
         begun = len(frame.data) if frame.first == NO_PACKET else frame.first
-        if self.is_within:
+        if self.gathered:
             yield from self.going_on(frame, begun)
         if frame.first != NO_PACKET:
-            self.gathered, self.is_within = frame.data[begun:], True
+            self.gathered = frame.data[begun:]
             yield from self.whole_ones(frame)
 
     def going_on(self, frame: Frame, begun: int) -> Iterator[bytes]:
@@ -181,7 +157,6 @@ class Packets:
             packet, self.gathered = self.gathered[:size], self.gathered[size:]
             if int.from_bytes(packet[:2], "big") & 0x7FF != IDLE:
                 yield packet
-        self.is_within = bool(self.gathered)
 
 
 class Run:
@@ -220,7 +195,8 @@ class Run:
     def frame(self, place: int, whole: bytes) -> Optional[Frame]:
         """A frame, if it is of the spacecraft and the channel."""
         self.sums["read"] += 1
-        if self.has_control and not is_whole(whole):
+        # (the remainder by x^16 + x^12 + x^5 + 1, begun with ones)
+        if self.has_control and binascii.crc_hqx(whole, 0xFFFF):
             raise Bad("is damaged, by its error control")
         identifier = int.from_bytes(whole[:2], "big")
         if identifier >> 14:
@@ -239,7 +215,7 @@ class Run:
 
     def packets(self, source: BinaryIO) -> Iterator[bytes]:
         """The Space Packets of frames, in order."""
-        for place, whole in (marked if self.said["sync"] else plain)(source, self.said["length"] or 0, self.tell, self.sums):
+        for place, whole in framed(source, self.said["length"] or 0, MARK if self.said["sync"] else b"", self.tell, self.sums):
             try:
                 frame = self.frame(place, whole)
             except Bad as why:
@@ -251,7 +227,7 @@ class Run:
                 for packet in self.taken.take(frame):
                     self.sums["packets"] += 1
                     yield packet
-        if self.taken.is_within:
+        if self.taken.gathered:
             self.taken.drop("the frames end")
 
     def end(self) -> int:

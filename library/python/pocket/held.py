@@ -58,11 +58,7 @@ class Held:
         if hasattr(self, "_handle") and self._process == os.getpid():
             self._close(self._handle)
 
-    def __copy__(self) -> NoReturn:
+    def __copy__(self, *_: Any) -> NoReturn:
         raise TypeError(f"a {type(self).__name__} is a handle of memory of the library, and can't be copied")
 
-    def __deepcopy__(self, _: Any) -> NoReturn:
-        self.__copy__()
-
-    def __reduce_ex__(self, _: Any) -> Any:
-        self.__copy__()
+    __deepcopy__ = __reduce_ex__ = __copy__

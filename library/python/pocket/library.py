@@ -1,7 +1,4 @@
-"""The calls of libpocket.so, by ctypes. The library is the one that the variable POCKET_LIBRARY names, or the one
-that stands beside this file, or that the system finds."""
-
-from __future__ import annotations
+"""The calls of libpocket.so, by ctypes."""
 
 import ctypes
 import ctypes.util
@@ -45,11 +42,13 @@ _CALLS = {
     "pocket_state_bytes": [ctypes.c_uint32, ctypes.c_uint32],
     "pocket_save": [_HANDLE, ctypes.c_void_p, _SIZE, ctypes.POINTER(_SIZE)],
     "pocket_load": [_HANDLE, _BYTES, _SIZE],
+    "pocket_status_text": [ctypes.c_uint32],
 }
+_RESULTS = {"pocket_state_bytes": _SIZE, "pocket_status_text": _BYTES}
 
 
 def _installed() -> str:
-    """The library that stands beside this file (`pip install`), or the one that the system finds."""
+    """The library that stands beside this file (`pip install`), or the one that the system finds. POCKET_LIBRARY names another."""
     beside = os.path.join(os.path.dirname(os.path.abspath(__file__)), "libpocket.so")
     return beside if os.path.exists(beside) else ctypes.util.find_library("pocket") or "libpocket.so.1"
 
@@ -62,7 +61,7 @@ class Library:
         for own, types in _CALLS.items():
             if hasattr(loaded, own):
                 function = getattr(loaded, own)
-                function.argtypes, function.restype = types, _SIZE if own == "pocket_state_bytes" else ctypes.c_uint32
+                function.argtypes, function.restype = types, _RESULTS.get(own, ctypes.c_uint32)
                 setattr(self, own, function)
         if call not in self.__dict__:
             raise AttributeError(call)

@@ -1,7 +1,3 @@
-"""The tool `merge`: what it does is told by HELP."""
-
-from __future__ import annotations
-
 HELP = """python3 -m pocket merge FIRST SECOND near=.. ..: joins the records of one pass by several stations into one store, in order.
 
     python3 -m pocket merge first.store second.store near=16500 out=both.store
@@ -75,12 +71,13 @@ def packets_of(name: str, source: BinaryIO, at: int, end: int) -> Iterator[Tuple
         at += size
 
 
+@dataclass
 class Stream:
     """What is known of an APID of a record before it is joined: its first number, its last one, and how many packets it has, each once."""
 
-    def __init__(self, first: int) -> None:
-        self.first = self.last = first
-        self.packets = 0
+    first: int
+    last: int = 0
+    packets: int = 0
 
 
 @dataclass
@@ -114,12 +111,9 @@ class Record:
                     self.path = kept.name
         self.size = os.path.getsize(self.path)
         for packet in self.packets():
-            stream = self.streams.get(packet.apid)
-            if stream is None:
-                stream = self.streams[packet.apid] = Stream(packet.number)
+            stream = self.streams.setdefault(packet.apid, Stream(packet.number))
             stream.last, stream.packets = packet.number, stream.packets + 1
-        strange = [apid for apid in self.near if apid is not None and apid not in self.streams]
-        if strange:
+        if strange := [apid for apid in self.near if apid is not None and apid not in self.streams]:
             raise ToolError(f"{self.name} has no packet of APID {strange[0]}, which near= names")
         if None in self.near and len(self.streams) > 1:
             raise ToolError(f"{self.name} has packets of {len(self.streams)} APIDs: say near=APID:N")
@@ -130,30 +124,24 @@ class Record:
         with opened(self.path) as source:
             for apid, count, at, whole in packets_of(self.name, source, 0, self.size):
                 before = latest.get(apid)
-                if before is None:
-                    number = self.streams[apid].first if apid in self.streams else count
+                if before:
+                    number = before.number + (count - before.number) % PERIOD
                 else:
-                    step = (count - before.number) % PERIOD
-                    if step == 0 or step >= HALF:
-                        self.look_at(before, Packet(apid, count, at, whole))
-                        continue
-                    number = before.number + step
-                latest[apid] = packet = Packet(apid, number, at, whole)
-                yield packet
+                    number = self.streams[apid].first if apid in self.streams else count
+                packet = Packet(apid, number, at, whole)
+                if before is None or before.number < number < before.number + HALF:
+                    latest[apid] = packet
+                    yield packet
+                else:
+                    self.look_at(before, packet)
 
     def look_at(self, before: Packet, packet: Packet) -> None:
         """Refuses a packet that is not a later one of its APID, if it isn't the one before again."""
-        count = before.number % PERIOD
-        if packet.number != count:
+        if packet.number != before.number:
             raise ToolError(f"{self.name}: from the packet of APID {packet.apid} at byte {before.place} to the one at byte {packet.place} the count goes from "
-                            f"{count} to {packet.number}: it isn't in order there, it began anew, or too many are lost")
+                            f"{before.number % PERIOD} to {packet.number % PERIOD}: it isn't in order there, it began anew, or too many are lost")
         if packet.whole != before.whole:
             raise ToolError(differ(self.name, before, self.name, packet, "one of them is damaged, or 16,383 are lost between them"))
-
-    def move(self, apid: int, first: int) -> None:
-        """Has an APID begin with another number."""
-        stream = self.streams[apid]
-        stream.first, stream.last = first, stream.last + first - stream.first
 
 
 def differ(first: str, one: Packet, second: str, other: Packet, why: str) -> str:
@@ -184,7 +172,7 @@ def place(records: List[Record], is_short: bool) -> None:
                 first = nearest(start, stream.first)
                 if first is None:
                     raise ToolError(f"{record.name}: its first packet of APID {apid} has the count {stream.first % PERIOD}, which {start} is 8,192 from on either side")
-                record.move(apid, first)
+                stream.first, stream.last = first, stream.last + first - stream.first
             low, high = min(low, stream.first), max(high, stream.last)
             if is_short and high - low + 1 >= HALF:
                 raise ToolError(f"{record.name}: the packets of APID {apid} lie within {high - low + 1} numbers, and not within fewer than 8,192: say near=")
@@ -203,9 +191,7 @@ class Source:
 
     def next_number(self, apid: int) -> Optional[int]:
         """The number of its next packet of an APID that is not yet joined, if it has one."""
-        ahead = self.ahead.get(apid)
-        if ahead is None:
-            return None
+        ahead = self.ahead[apid]
         while not ahead and self.left[apid]:
             found = next(self.scout, None)
             if found is None or not self.left.get(found.apid):

@@ -1,7 +1,3 @@
-"""The tool `numbers`: what it does is told by HELP."""
-
-from __future__ import annotations
-
 HELP = """python3 -m pocket numbers table=T report=R [fields=F bits=N] [as=csv|influx|events] [..]: a table with each packet's number and time.
 
     python3 -m pocket numbers table=day.table report=day.report start=2026-11-30T06:00:00Z step=1 out=day.csv
@@ -24,7 +20,6 @@ import datetime
 import decimal
 import itertools
 import re
-from dataclasses import dataclass, field
 from typing import Dict, Iterator, List, NamedTuple, Optional, Sequence, Tuple
 
 from .fields import Fields, fields_of
@@ -128,8 +123,7 @@ class Clock:
     def __init__(self, said: Dict[str, str]) -> None:
         self.field, self.is_known = said.get("time"), bool({"time", "start"} & set(said))
         for key, others in (("time", ("epoch", "unit")), ("start", ("step",))):
-            wrong = [one for one in others if (one in said) != (key in said)]
-            if wrong:
+            if wrong := [one for one in others if (one in said) != (key in said)]:
                 raise ToolError(f"{wrong[0]}= is missing beside {key}=" if key in said else f"{wrong[0]}= is given without {key}=")
         if {"time", "start"} <= set(said):
             raise ToolError("time= and start= are two ways to tell times: say one")
@@ -197,7 +191,7 @@ def series(said: Dict[str, str], tags: List[str], names: Sequence[str]) -> str:
 
 def as_influx(names: List[str], lines: List[Line], fields: Fields, own: str) -> Iterator[str]:
     """A point for each packet. A number of 64 bits without a sign is Influx's own kind of these. Points of one series and time would be one."""
-    kinds = {one.name: "u" if one.width == 64 and not one.signed else "i" for one in fields.fields}
+    kinds = {one.name: "u" if one.width == 64 and not one.signed else "i" for one in fields.fields.values()}
     number = apart("number", names)
     before: Dict[Optional[int], int] = {}
     if "time" in names:
@@ -210,49 +204,25 @@ def as_influx(names: List[str], lines: List[Line], fields: Fields, own: str) -> 
         yield f"{own} {','.join(values)} {line.time}"
 
 
-@dataclass
-class Stretch:
-    """Packets in a row at which a field is out of one of its limits."""
+def stretches(name: str, place: int, low: int, high: int, lines: List[Line]) -> Iterator[Tuple[int, int, str]]:
+    """The stretches of packets at which a field is out of one of its limits: of each the first packet, the field's place, and the line."""
+    def value(line: Line) -> int:
+        return line.values[place]
 
-    low: bool
-    lines: List[Line] = field(default_factory=list)
-    values: List[int] = field(default_factory=list)
-
-    def text(self, name: str, limit: int, after: Optional[Line]) -> str:
-        """Its line."""
-        worst = min(self.values) if self.low else max(self.values)
-        at = self.lines[self.values.index(worst)]
-        cells = [name, "low" if self.low else "high", limit, self.lines[0].number, shown(self.lines[0].time), after.number if after else "",
-                 shown(after.time) if after else "", len(self.lines), worst, at.number, shown(at.time)]
-        return ",".join(map(str, cells))
-
-
-def stretches(lines: List[Line], place: int, low: int, high: int) -> Iterator[Tuple[Stretch, Optional[Line]]]:
-    """The stretches of a field, each with the first packet after it that is no longer out of that limit."""
-    now: Optional[Stretch] = None
-    for line in lines:
-        value = line.values[place]
-        side = None if low <= value <= high else value < low
-        if now is not None and side != now.low:
-            yield now, line
-            now = None
-        if side is not None:
-            now = now or Stretch(side)
-            now.lines.append(line)
-            now.values.append(value)
-    if now is not None:
-        yield now, None
+    runs = [(side, list(own)) for side, own in itertools.groupby(lines, lambda line: (value(line) > high) - (value(line) < low))]
+    for (side, own), after in itertools.zip_longest(runs, [own[0] for _, own in runs[1:]]):
+        if side:
+            worst = max(own, key=value) if side > 0 else min(own, key=value)
+            limit = ["high", high] if side > 0 else ["low", low]
+            left = [after.number, shown(after.time)] if after else ["", ""]
+            cells = [name, *limit, own[0].number, shown(own[0].time), *left, len(own), value(worst), worst.number, shown(worst.time)]
+            yield own[0].number, place, ",".join(map(str, cells))
 
 
 def as_events(names: List[str], lines: List[Line], fields: Fields, _: str) -> Iterator[str]:
     """A line for each stretch of a field out of its limits, in the order in which they begin."""
     yield "field,limit,bound,entered,entered_time,left,left_time,packets,worst,worst_at,worst_time"
-    found = []
-    for place, name in enumerate(names):
-        if name in fields.limits:
-            low, high = fields.limits[name]
-            found += [(stretch.lines[0].number, place, stretch.text(name, low if stretch.low else high, after))
-                      for stretch, after in stretches(lines, place, low, high)]
+    found = [one for place, name in enumerate(names) if name in fields.limits for one in stretches(name, place, *fields.limits[name], lines)]
     yield from (text for _, _, text in sorted(found))
 
 
@@ -262,7 +232,7 @@ FORMS = {"csv": as_csv, "influx": as_influx, "events": as_events}
 def lines_of(said: Dict[str, str], clock: Clock, fields: Fields) -> Tuple[List[str], List[Line], str]:
     """The names of a table's fields, its packets, and what has to be told of their times."""
     names, values = table_of(said["table"])
-    if fields.fields and [one.name for one in fields.fields] != names:
+    if fields.fields and list(fields.fields) != names:
         raise ToolError(f"the fields of {said['fields']} are not those of {said['table']}")
     rows = rows_of(said["report"], number_of(said, "apid", 0, IDLE - 1))
     numbers = list(written(said["report"], rows))
@@ -285,9 +255,6 @@ def choice_of(said: Dict[str, str], tags: List[str]) -> Tuple[str, Clock]:
     clock = Clock(said)
     if form == "influx" and not clock.is_known:
         raise ToolError("as=influx takes start= and step=, or time=: Influx keeps one point of one time")
-    inputs = [said[key] for key in ("table", "report", "fields") if key in said]
-    if inputs.count("-") > 1:
-        raise ToolError("standard input is one file")
     series(said, tags, [])
     return form, clock
 

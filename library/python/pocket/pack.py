@@ -1,7 +1,3 @@
-"""The tool `pack`: what it does is told by HELP."""
-
-from __future__ import annotations
-
 HELP = """python3 -m pocket pack fields=F bits=N [in=CSV]: a recording out of a table of numbers, which is the inverse of the command `table`.
 
     python3 -m pocket pack fields=hk.fields bits=64 in=numbers.csv out=hk.rec
@@ -14,7 +10,7 @@ tested, not proved.
 
 import csv
 import io
-from typing import Iterator, List, Optional
+from typing import Dict, Iterator, List, Optional
 
 from .fields import Field, fields_of
 from .calls import MOST_BITS
@@ -24,18 +20,17 @@ KEYS = ("fields", "bits", "in", "out")
 PASSED_OVER = ("t", "number")
 
 
-def columns_of(name: str, header: List[str], fields: List[Field]) -> List[Optional[Field]]:
+def columns_of(name: str, header: List[str], fields: Dict[str, Field]) -> List[Optional[Field]]:
     """The field of each column, or nothing if it is passed over."""
-    named = {one.name: one for one in fields}
     found: List[Optional[Field]] = []
     for place, text in enumerate(header, 1):
         # (of two columns t of a table with a field t the first is the packet's place)
-        is_place = text in PASSED_OVER and (text not in named or (place == 1 and header.count(text) > 1))
-        if not is_place and text not in named:
+        is_place = text in PASSED_OVER and (text not in fields or (place == 1 and header.count(text) > 1))
+        if not is_place and text not in fields:
             raise ToolError(f"{name}: line 1, column {place}: no field has the name {text}")
-        if not is_place and named[text] in found:
+        if not is_place and fields[text] in found:
             raise ToolError(f"{name}: line 1, column {place}: {text} stands twice")
-        found.append(None if is_place else named[text])
+        found.append(None if is_place else fields[text])
     if not any(found):
         raise ToolError(f"{name}: line 1 names no field")
     return found
@@ -61,7 +56,7 @@ def packed(name: str, line: int, row: List[str], columns: List[Optional[Field]],
     return packet
 
 
-def packets(name: str, text: str, fields: List[Field], bits: int) -> Iterator[bytes]:
+def packets(name: str, text: str, fields: Dict[str, Field], bits: int) -> Iterator[bytes]:
     """The packets of a table."""
     rows = csv.reader(io.StringIO(text, newline=""), strict=True)
     size = -(-bits // 8)
@@ -78,14 +73,11 @@ def run(words: List[str]) -> int:
     """Writes the recording."""
     said = given(words, KEYS, ["fields", "bits"])
     name, bits = said.get("in", "-"), number_of(said, "bits", 1, MOST_BITS) or 0
-    if said["fields"] == name == "-":
-        raise ToolError("standard input is one file")
     with outputs("pack", said, [name, said["fields"]]) as (out, _):
         try:
             text = contents(name).decode("ascii")
         except UnicodeDecodeError as error:
             raise ToolError(f"{name}: byte {error.start} is no ASCII letter") from None
         # (all of it is looked at before any is written)
-        for packet in list(packets(name, text, fields_of(said["fields"], bits).fields, bits)):
-            out.write(packet)
+        out.write(b"".join(packets(name, text, fields_of(said["fields"], bits).fields, bits)))
     return 0

@@ -6,7 +6,7 @@ from typing import Iterator, Mapping, Tuple
 
 from .calls import Arrival, Data, Receiver
 from .errors import StoreError
-from .packets import IDLE
+from .packets import HEADER, IDLE
 
 
 class Receivers:
@@ -38,26 +38,24 @@ class Receivers:
         """What is found of each packet that is whole with these bytes, with its APID, in order: to be gone through to its end. A packet of
         another version raises `StoreError`, with its place: nothing is judged any more."""
         self._left += data
-        while len(self._left) >= 6 and len(self._left) >= 7 + int.from_bytes(self._left[4:6], "big"):
-            size = 7 + int.from_bytes(self._left[4:6], "big")
-            packet = bytes(self._left[:size])
-            if packet[0] >> 5:
+        while len(self._left) >= 6:
+            first, second, last = HEADER.unpack_from(self._left)
+            size, apid = 7 + last, first & 0x7FF
+            if len(self._left) < size:
+                return
+            if first >> 13:
                 raise StoreError(f"the packet at byte {self.bytes} is of another version")
+            own = self._left[6:size]
             del self._left[:size]
             self.bytes += size
-            yield from self._judged(packet)
-
-    def _judged(self, packet: bytes) -> Iterator[Tuple[int, Arrival]]:
-        first, second = int.from_bytes(packet[:2], "big"), int.from_bytes(packet[2:4], "big")
-        apid = first & 0x7FF
-        if apid == IDLE:
-            self.idle += 1
-        elif apid not in self._receivers:
-            self.unknown += 1
-        elif first >> 11 or second >> 14 != 3:
-            self.misshapen += 1
-        else:
-            yield apid, self._receivers[apid].receive(second & 0x3FFF, packet[6:])
+            if apid == IDLE:
+                self.idle += 1
+            elif apid not in self._receivers:
+                self.unknown += 1
+            elif first >> 11 or second >> 14 != 3:
+                self.misshapen += 1
+            else:
+                yield apid, self._receivers[apid].receive(second & 0x3FFF, own)
 
     def close(self) -> None:
         """Closes all receivers."""

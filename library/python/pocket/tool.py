@@ -1,12 +1,10 @@
 """What the tools of `python3 -m pocket` share: their words, their files, and what is wrong with them."""
 
-from __future__ import annotations
-
 import contextlib
 import difflib
 import os
 import re
-import stat
+import shutil
 import sys
 from typing import BinaryIO, Callable, Dict, Iterator, List, Optional, Sequence, Tuple
 
@@ -116,7 +114,7 @@ class Output:
                 raise ToolError(f"{name}: {path}.part is no regular file")
             self.file, self.target, self.part = open(path + ".part", "wb"), path, path + ".part"
             if os.path.exists(path):
-                os.chmod(self.part, stat.S_IMODE(os.stat(path).st_mode))
+                shutil.copymode(path, self.part)
         except (OSError, ValueError) as error:
             raise error if isinstance(error, ToolError) else ToolError(f"{name}: {getattr(error, 'strerror', None) or error}") from error
 
@@ -134,10 +132,13 @@ class Output:
 
 @contextlib.contextmanager
 def outputs(tool: str, said: Dict[str, str], inputs: Sequence[str]) -> Iterator[Tuple[BinaryIO, Tell]]:
-    """Where a tool writes, by `out=`, and what tells a line, by `report=`: standard output and standard error if they aren't named."""
+    """Where a tool that reads these inputs writes, by `out=`, and what tells a line, by `report=`: standard output and standard error if they
+    aren't named."""
     names = [said.get("out", "-"), *([said["report"]] if "report" in said else [])]
     if names == ["-", "-"]:
         raise ToolError("standard output is one output")
+    if inputs.count("-") > 1:
+        raise ToolError("standard input is one file")
     made: List[Output] = []
     for name in names:
         made.append(Output(name, inputs, [path for one in made if one.part for path in (one.target, one.part)]))
