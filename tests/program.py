@@ -125,13 +125,14 @@ def ended(program, given=None):
     return program.returncode, out or b"", err or b""
 
 
-def wait_for(is_so):
-    """Waits until something is so, and fails if it takes too long."""
-    end = time.monotonic() + LIMIT
-    while not is_so():
+def wait_for(is_so, limit=LIMIT):
+    """Waits until something is so, which it gives, and fails if it takes too long."""
+    end = time.monotonic() + limit
+    while not (found := is_so()):
         if time.monotonic() > end:
             raise TimeoutError("what was waited for did not come")
         time.sleep(0.002)
+    return found
 
 
 def unread_pipe():
