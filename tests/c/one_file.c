@@ -2,7 +2,6 @@
  * the file in whole, so that it sees what lies in a block. Its word, `all`, or `some` for valgrind, says for how many numbers of bits. */
 #include "pocket.c"
 #include "check.h"
-#include <stdlib.h>
 
 /* The names of the header are those of its checks. */
 #define pocket_sender_open_in pocket_checked_sender_open_in
