@@ -3,6 +3,7 @@ which lose some and repeat some; the first pass is cut in the midst of a packet,
 limits and a plot's numbers, and at the end a recorder's dump on a channel of its own and a restart on board. What the commands and the tools
 give back is compared with what was sent and what arrived, which is kept here."""
 
+import itertools
 import os
 import random
 import subprocess
@@ -77,12 +78,8 @@ def apid_of(packet):
 
 
 def missing(numbers):
-    """The runs of numbers before the last arrival that did not arrive."""
-    arrived, runs = sorted(set(numbers)), []
-    for before, after in zip([-1] + arrived, arrived):
-        if after - before > 1:
-            runs.append(f"{before + 1},{after - 1},lost,0")
-    return runs
+    """The rows of the numbers before the last arrival that did not arrive."""
+    return [f"{before + 1},{after - 1},lost,0" for before, after in itertools.pairwise([-1, *sorted(set(numbers))]) if after - before > 1]
 
 
 def runs_of(numbers):
@@ -92,16 +89,9 @@ def runs_of(numbers):
 
 def out_of_limits(numbers, packets):
     """The stretches of packets at which the current is out of its limits: the first packet, how many, and the worst value."""
-    found, before = [], 0
-    for number, packet in zip(numbers, packets):
-        value = int.from_bytes(packet[1:3], "big", signed=True)
-        side = (value > 900) - (value < -900)
-        if side and side == before:
-            found[-1] = (found[-1][0], found[-1][1] + 1, max(found[-1][2], value) if side > 0 else min(found[-1][2], value))
-        elif side:
-            found.append((number, 1, value))
-        before = side
-    return found
+    values = [(number, int.from_bytes(packet[1:3], "big", signed=True)) for number, packet in zip(numbers, packets)]
+    stretches = [(side, list(some)) for side, some in itertools.groupby(values, lambda one: (one[1] > 900) - (one[1] < -900))]
+    return [(some[0][0], len(some), (max if side > 0 else min)(value for _, value in some)) for side, some in stretches if side]
 
 
 def stretches_of(events):

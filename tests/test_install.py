@@ -35,11 +35,9 @@ def root_of(folder):
     root = f"{folder}/debian"
     for name in ("updates", "info", "triggers"):
         os.makedirs(f"{root}/var/lib/dpkg/{name}")
-    told = [run("dpkg-query", "-s", name) for name in NEEDED]
-    with open(f"{root}/var/lib/dpkg/status", "w", encoding="utf-8") as file:
-        for status, text in told:
-            if status == 0:
-                file.write("".join(line for line in text.splitlines(True) if not line.startswith(("Depends:", "Pre-Depends:", "Recommends:"))) + "\n")
+    told = "\n".join(text for status, text in (run("dpkg-query", "-s", name) for name in NEEDED) if status == 0)
+    kept = [line for line in told.splitlines(True) if not line.startswith(("Depends:", "Pre-Depends:", "Recommends:"))]
+    Folder(f"{root}/var/lib/dpkg").put("status", "".join(kept) + "\n")
     return root
 
 

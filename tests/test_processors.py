@@ -10,7 +10,7 @@ import subprocess
 import tempfile
 import unittest
 
-from driver import CASES, HEAP, compile_driver, differing, lines_of, ran, random_cases, verb_lines, worked, wrong_lines
+from driver import HEAP, all_tests, compile_driver, differing, lines_of, ran, verb_lines
 from library import PROVED
 from packets import packet
 from program import PROGRAM, TOP, Folder
@@ -50,8 +50,8 @@ class Processors(unittest.TestCase):
     @classmethod
     def setUpClass(cls):
         cls.room = cls.enterClassContext(tempfile.TemporaryDirectory(prefix="pocket-processors-"))
-        _, cls.cases, lines = random_cases()
-        cls.tests = {"the worked inputs": worked(), "wrong arguments": wrong_lines(), f"{CASES} random cases": (lines, None), "all nine verbs": verb_lines()}
+        cls.tests, cls.cases, _ = all_tests()
+        cls.tests["all nine verbs"] = verb_lines()
         cls.native = os.path.join(cls.room, "native")
         compile_driver("gcc", [PROVED, HEAP], cls.native, "-DPOCKET_DESK")
         cls.printed = {name: ran([cls.native], lines) for name, (lines, _) in cls.tests.items()}

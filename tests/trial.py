@@ -13,23 +13,10 @@ def count_bits(a):
     return 3 + 2 * (a - 2).bit_length() - 6
 
 
-def ones(vector, f):
-    """The places of the ones, from the last place down."""
-    place = f - 1
-    while vector:
-        if vector & 1:
-            yield place
-        vector >>= 1
-        place -= 1
-
-
-def run_bits(vector, f):
-    """The bits of the run code of a vector."""
-    bits, before = 2, f
-    for place in ones(vector, f):
-        bits += count_bits(before - place)
-        before = place
-    return bits
+def run_bits(vector):
+    """The bits of the run code of a vector: the counts from each one to the next, from the last place down, and an end."""
+    zeros = f"{vector:b}"[::-1].split("1")[:-1]
+    return 2 + sum(count_bits(len(between) + 1) for between in zeros)
 
 
 def draws(seed):
@@ -80,7 +67,7 @@ def trial(seed, packets, f, robust):
         while level < max(robust, min(15, t)) and changes[t - level - 1] == 0:
             level += 1
         twice = sum(new[max(0, t - level) : t + 1]) >= 2
-        bits = run_bits(recent, f) + 4
+        bits = run_bits(recent) + 4
         wide = mask
         if level > 0 and recent:
             bits += 1
@@ -92,7 +79,7 @@ def trial(seed, packets, f, robust):
         if send or whole:
             bits += 1
             if send:
-                bits += run_bits(mask ^ (mask << 1 & (1 << f) - 1), f)
+                bits += run_bits(mask ^ (mask << 1 & (1 << f) - 1))
         if whole:
             bits += 1 + count_bits(f) + f
         else:
