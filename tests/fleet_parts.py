@@ -1,4 +1,4 @@
-"""What the test of many spacecraft (fleet.py) is made of: a Redis of its own, the packets of spacecraft with what the program restores of
+"""What the test of many spacecraft (test_fleet.py) is made of: a Redis of its own, the packets of spacecraft with what the program restores of
 them, and the programs of the example, which are begun anew as a service manager does."""
 
 import contextlib

@@ -23,11 +23,11 @@ sys.path.insert(0, MODULE)
 from pocket.tool import ToolError
 
 
-def run(*words, given=b"", cwd=TOP, env=None, timeout=600):
+def run(*words, given=b"", cwd=TOP, stderr=subprocess.PIPE, timeout=600, **how):
     """What a command writes; one that does not end with 0 is an error."""
-    found = subprocess.run(words, input=given, capture_output=True, cwd=cwd, env=env, timeout=timeout)
+    found = subprocess.run(words, input=given, stdout=subprocess.PIPE, stderr=stderr, cwd=cwd, timeout=timeout, **how)
     if found.returncode:
-        raise RuntimeError(f"{words[0]} ended with {found.returncode}: {(found.stdout + found.stderr)[-400:]!r}")
+        raise RuntimeError(f"{words[0]} ended with {found.returncode}: {(found.stdout + (found.stderr or b''))[-1000:]!r}")
     return found.stdout
 
 

@@ -1,5 +1,6 @@
 """Runs that are cut off, and runs whose files, folders, memory or disk change or end meanwhile: each name keeps what it had."""
 
+import contextlib
 import os
 import resource
 import signal
@@ -145,7 +146,5 @@ def has_open(program, path):
 def link_when_gone(path, target, ending):
     """Makes a link as soon as no file has its name."""
     while not ending.is_set():
-        try:
+        with contextlib.suppress(FileExistsError):
             return os.symlink(target, path)
-        except FileExistsError:
-            pass

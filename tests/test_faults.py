@@ -56,8 +56,7 @@ class Runner(Folder):
     def __init__(self, folder):
         super().__init__(folder)
         subprocess.run(["gcc", "-O1", "-shared", "-fPIC", "-o", self.at("faults.so"), os.path.join(TOP, "tests", "c", "faults.c"), "-ldl"], check=True)
-        for name in os.listdir(SAMPLES):
-            shutil.copyfile(os.path.join(SAMPLES, name), self.at(name))
+        shutil.copytree(SAMPLES, folder, dirs_exist_ok=True)
         self.put("swapped", SWAPPED)
 
     def run(self, words, kind="", nth=0):
