@@ -13,11 +13,11 @@ HEAP = f"{TOP}/library/heap.c"
 SAVED = [1, 13, 64, 100, 720, 1024]
 # The inputs B0 B1 B1 B3 at bits=8 robust=1, and of each the data, the level and the content.
 WORKED = [("B0", "85B8D600", 1), ("B1", "424B8D62", 1), ("B1", "44C0", 2), ("B3", "C085C0", 1)]
-# Wrong arguments one by one: the lines, and the status that each is answered by, if it is known.
-WRONG = list(zip(("open 0 -", "open 5 5"), ("open 49153 -", "open 5 5"), ("open 13 00", "open 6 0"), ("close", None), ("open 13 0001", "open 7 0"),
+# Wrong arguments one by one, each a line and the status that it is answered by.
+WRONG = [("open 0 -", "open 5 5"), ("open 49153 -", "open 5 5"), ("open 13 00", "open 6 0"), ("close", None), ("open 13 0001", "open 7 0"),
          ("close", None), ("open 13 FFF8", "open 0 0"), ("open 13 -", "open 3 3"), ("reset 00", "reset 6 0"), ("reset 0001", "reset 7 0"), ("send 0 1 1 12", "sent 8"), ("send 0 1 1 1201", "sent 9"),
          ("send 0 8 1 1238", "sent 10"), ("send 7 1 0 1238", None), ("receive 16384 00", "received 13"), ("close", None),
-         ("send 0 1 1 1238", "sent 2"), ("receive 0 00", "received 2"), ("reset -", "reset 2 2")))
+         ("send 0 1 1 1238", "sent 2"), ("receive 0 00", "received 2"), ("reset -", "reset 2 2")]
 
 
 def worked():
@@ -141,4 +141,4 @@ def all_tests():
     draw = random.Random(SEED)
     cases = [random_case(draw, number) for number in range(CASES)]
     lines = [line for case in cases for line in lines_of(case)]
-    return {"the worked inputs": worked(), "wrong arguments": WRONG, f"{CASES} random cases": (lines, None)}, cases, draw
+    return {"the worked inputs": worked(), "wrong arguments": tuple(zip(*WRONG)), f"{CASES} random cases": (lines, None)}, cases, draw
