@@ -133,7 +133,8 @@ class Spacecraft(LibraryTest):
         client = self.small()
         for partition in range(client.xlen(work.LEASES)):
             client.xclaim(work.LEASES, work.GROUP, "dead", 0, [f"{partition + 1}-0"], force=True)
-        worker = begun("work.py", self.engine.place, "1000")
+        known, worker = len(client.client_list()), begun("work.py", self.engine.place, "1000")
+        until(lambda: len(client.client_list()) > known)
         time.sleep(1)
         self.assertEqual([client.hget(f"fleet:state:{name}", "packets") for name in self.names], [None] * 3)
         worker.kill()
