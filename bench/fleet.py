@@ -13,7 +13,8 @@ import time
 
 sys.path.insert(0, os.path.join(os.path.dirname(os.path.dirname(os.path.abspath(__file__))), "tests"))
 import measure
-from fleet_parts import APIDS, FLEET, Engine, Fleet, begun, pieces, ran
+from fleet_parts import APIDS, FLEET, Engine, Fleet, begun, ran
+from packets import packets_of
 
 sys.path.insert(0, FLEET)
 import feed
@@ -41,7 +42,7 @@ def fed_live(fleet, engine):
     """Feeds all packet by packet, one of each spacecraft in turn."""
     client, begin, streams = feed.opened(engine.place), time.process_time(), json.dumps({str(apid): bits for apid, bits in APIDS.items()})
     places = dict.fromkeys(fleet.names, 0)
-    for turn in itertools.zip_longest(*(pieces(store) for store in fleet.stores.values())):
+    for turn in itertools.zip_longest(*(packets_of(store) for store in fleet.stores.values())):
         for name, packet in zip(fleet.names, turn):
             if packet:
                 feed.put(client, name, streams, "live", places[name], packet, 1)
@@ -70,7 +71,7 @@ HEADS = ["Fed as", "Workers", "Packets a second", "Microseconds of a processor f
 
 def rows(fleet, engine, way, fed_by):
     """The rows of packets that are fed in one way."""
-    count = sum(len(list(pieces(store))) for store in fleet.stores.values())
+    count = sum(len(list(packets_of(store))) for store in fleet.stores.values())
     for workers in (1, 2, 4):
         first, fed, full, seconds, spent, worked, found, states = judged(fleet, engine, workers, fed_by)
         yield way, workers, f"{count / seconds:,.0f}", *(f"{one / count * 1e6:.1f}" for one in (first, spent, fed + worked)), \

@@ -6,6 +6,8 @@ cross compilers, and leaves out what is not there. Instructions are counted by v
 """
 
 import argparse
+import ctypes
+import graphlib
 import os
 import re
 import shutil
@@ -61,14 +63,10 @@ def built(dist, folder, name, compiler, flags, others):
 
 def memories(dist, folder):
     """The rows of the memory of a handle, and of a state."""
-    source = os.path.join(folder, "bytes.c")
-    with open(source, "w", encoding="ascii") as file:
-        file.write('#include "pocket.c"\n#include <stdio.h>\n#include <stdlib.h>\nint main(int n, char **w) {\n    u32 b = (u32)atoi(w[n - 1]);\n'
-                   '    printf("%zu %zu %u %u\\n", pocket_sender_bytes(b), pocket_receiver_bytes(b),\n'
-                   "           (unsigned)pocket_state_bytes(b, 1), (unsigned)pocket_state_bytes(b, 2));\n    return 0;\n}\n")
-    run(["gcc", "-O1", "-I", dist, "-o", f"{folder}/bytes", source])
+    run(["gcc", "-O1", "-fPIC", "-shared", "-o", f"{folder}/pocket.so", f"{dist}/pocket.c"])
+    file = ctypes.CDLL(f"{folder}/pocket.so")
     for bits in BITS:
-        yield bits, *map(int, run([f"{folder}/bytes", str(bits)]).split())
+        yield bits, file.pocket_sender_bytes(bits), file.pocket_receiver_bytes(bits), file.pocket_state_bytes(bits, 1), file.pocket_state_bytes(bits, 2)
 
 
 def costs(program, kind, recording):
@@ -93,21 +91,15 @@ def packets(dist, folder, only):
 
 
 def deepest(text, calls):
-    """The most bytes of C's stack that each call takes, from what gcc tells of its functions and of whom they call; no function calls itself."""
+    """The most bytes of C's stack that each call takes, from what gcc tells of its functions and of whom they call. One that calls itself is an error."""
     own = {title: int(size) for title, size in re.findall(r'^node: \{ title: "([^"]+)" label: "[^"]*\\n(\d+) bytes \((?:static|dynamic,bounded)\)', text, re.M)}
     called = {}
     for caller, callee in re.findall(r'^edge: \{ sourcename: "([^"]+)" targetname: "([^"]+)"', text, re.M):
         called.setdefault(caller, set()).add(callee)
-    known = {}
-
-    def depth(name, above):
-        if name in above:
-            raise ValueError(f"{name} calls itself")
-        if name not in known:
-            known[name] = own.get(name, 0) + max((depth(it, above | {name}) for it in called.get(name, ())), default=0)
-        return known[name]
-
-    return [depth(call, frozenset()) for call in calls]
+    found = {}
+    for name in graphlib.TopologicalSorter(called).static_order():
+        found[name] = own.get(name, 0) + max((found[it] for it in called.get(name, ())), default=0)
+    return [found[call] for call in calls]
 
 
 def stacks(dist, folder):

@@ -25,17 +25,12 @@ from svg import Wrong
 
 
 def main(given):
+    kind, *names = given or [""]
+    draws = {("listing", 0): draw_listing, ("table", 2): draw_table, ("forecast", 0): draw_forecast}.get((kind, len(names)))
+    if not draws and kind != "packet":
+        sys.exit(__doc__)
     try:
-        if given == ["listing"]:
-            sys.stdout.write(draw_listing(sys.stdin.buffer.read().decode("ascii", "replace")))
-        elif given[:1] == ["table"] and len(given) == 3:
-            sys.stdout.write(draw_table(sys.stdin.buffer.read().decode("ascii", "replace"), *given[1:]))
-        elif given == ["forecast"]:
-            sys.stdout.write(draw_forecast(sys.stdin.buffer.read().decode("ascii", "replace")))
-        elif given[:1] == ["packet"]:
-            sys.stdout.write(draw_packet(given[1:]))
-        else:
-            sys.exit(__doc__)
+        sys.stdout.write(draws(sys.stdin.buffer.read().decode("ascii", "replace"), *names) if draws else draw_packet(names))
     except Wrong as fault:
         sys.exit(f"draw.py: {fault}")
 

@@ -57,10 +57,9 @@ def check_report(text, values, count, limits):
 def steps(values, across, at):
     """The line of the values as steps: each holds over its packet's place. If several packets share a pixel, the line goes from their
     least value to their greatest one, so that none is left out."""
-    if len(values) <= WIDE:
-        parts = [f"M{across(0):.1f} {at(values[0]):.1f}"]
-        return "".join(parts + [f"V{at(value):.1f}H{across(t + 1):.1f}" for t, value in enumerate(values)])
     parts = [f"M{across(0):.1f} {at(values[0]):.1f}"]
+    if len(values) <= WIDE:
+        return "".join(parts + [f"V{at(value):.1f}H{across(t + 1):.1f}" for t, value in enumerate(values)])
     for column in range(WIDE):
         first, last = len(values) * column // WIDE, len(values) * (column + 1) // WIDE
         here = values[first:last]
@@ -120,4 +119,4 @@ def draw_table(text, report, fields):
     if bottom > 40:
         parts += axis(count, left, 46) + axis(count, left, bottom + 16)
         parts += [words(left, bottom + 36 + 16 * row, text, 11) for row, text in enumerate(NOTES)]
-    return picture(left + WIDE + 90, bottom + 66, title, [words(14, 22, title, 14, weight="bold"), *parts])
+    return picture(left + WIDE + 90, bottom + 66, title, parts)

@@ -137,4 +137,4 @@ def draw_forecast(text):
     for place, state in enumerate(shown):
         drawn.append(strip_part(14, bottom + 24 * place, 18, state, state) + words(40, bottom + 24 * place + 14, f"{sums[state]} {STATES[state][3]}"))
     title = f"{count} packets, of which {sure} are sure to be written"
-    return picture(84 + STRIP, bottom + 24 * len(shown) + 6, title, [words(14, 22, title, 14, weight="bold"), *drawn])
+    return picture(84 + STRIP, bottom + 24 * len(shown) + 6, title, drawn)

@@ -233,4 +233,4 @@ def draw_listing(text):
     for note in notes + ["The listing has no last line: the store was not read to its end."] * (not whole):
         keys.append(words(14, end + 12, note, weight="bold"))
         end += 20
-    return picture(max(right + 14, 480), end + 10, title, [words(14, 22, title, 14, weight="bold"), *cells, *keys])
+    return picture(max(right + 14, 480), end + 10, title, cells + keys)

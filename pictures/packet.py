@@ -46,5 +46,4 @@ def draw_packet(given):
     for number, (name, bits) in enumerate(parts, 1):
         drawn.append(words(14, bottom + 20 * number - 12, f"{number}", weight="bold") + words(40, bottom + 20 * number - 12, bits)
                      + words(60 + 8 * widest, bottom + 20 * number - 12, name))
-    title = f"{count} bits of a packet in {len(marked) // 8} bytes"
-    return picture(28 + 24 * min(32, len(marked)), bottom + 20 * len(parts) + 4, title, [words(14, 22, title, 14, weight="bold"), *drawn])
+    return picture(28 + 24 * min(32, len(marked)), bottom + 20 * len(parts) + 4, f"{count} bits of a packet in {len(marked) // 8} bytes", drawn)

@@ -23,10 +23,11 @@ def words(x, y, text, size=12, anchor="start", fill="#000000", weight="normal"):
 
 
 def picture(width, height, title, parts):
-    """The whole SVG."""
+    """The whole SVG, with its title above."""
     size = f"width='{width:g}' height='{height:g}'"
     head = f"<svg xmlns='http://www.w3.org/2000/svg' {size} viewBox='0 0 {width:g} {height:g}' role='img' {FONT}>"
-    return "\n".join([head, f"<title>{escape(title)}</title>", f"<rect {size} fill='#ffffff'/>", *parts, "</svg>", ""])
+    above = words(14, 22, title, 14, weight="bold")
+    return "\n".join([head, f"<title>{escape(title)}</title>", f"<rect {size} fill='#ffffff'/>", above, *parts, "</svg>", ""])
 
 
 def ticks(count):

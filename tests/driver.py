@@ -136,13 +136,9 @@ def compile_driver(compiler, library, to, *flags):
     run(compiler, "-std=c99", *STRICT, "-O2", "-static", *flags, "-o", to, f"{TOP}/tests/c/driver.c", *library)
 
 
-def wrong_lines():
-    """The lines of wrong arguments, and what is known of what they give: each answers one line."""
-    return [line for line, _ in WRONG], [status for _, status in WRONG]
-
-
-def random_cases():
-    """The cases, and their lines."""
+def all_tests():
+    """The tests, each its lines and what is known of what they give; the random cases among them, and what draws more."""
     draw = random.Random(SEED)
     cases = [random_case(draw, number) for number in range(CASES)]
-    return draw, cases, [line for case in cases for line in lines_of(case)]
+    lines = [line for case in cases for line in lines_of(case)]
+    return {"the worked inputs": worked(), "wrong arguments": tuple(zip(*WRONG)), f"{CASES} random cases": (lines, None)}, cases, draw

@@ -1,10 +1,10 @@
-"""What the test of many spacecraft (fleet.py) is made of: a Redis of its own, the packets of spacecraft with what the program restores of
+"""What the test of many spacecraft (test_fleet.py) is made of: a Redis of its own, the packets of spacecraft with what the program restores of
 them, and the programs of the example, which are begun anew as a service manager does."""
 
 import contextlib
+import functools
 import json
 import os
-import pathlib
 import random
 import socket
 import subprocess
@@ -13,13 +13,15 @@ import time
 from concurrent.futures import ThreadPoolExecutor
 
 import redis
+from packets import packets_of
+from program import TOP, Folder, wait_for
 
-ROOT = os.path.dirname(os.path.dirname(os.path.abspath(__file__)))
-FLEET = os.path.join(ROOT, "library", "examples", "fleet")
+FLEET = os.path.join(TOP, "library", "examples", "fleet")
 # The bits of the two APIDs of each spacecraft, and the recordings of each of which its packets are taken.
 APIDS, RECORDINGS = {100: 64, 101: 1000}, 12
 # What takes longer has failed: it bounds the whole, and decides nothing else.
 LIMIT = 3600
+until = functools.partial(wait_for, limit=LIMIT)
 
 
 def is_free(port):
@@ -56,16 +58,6 @@ class Engine:
         self.process.wait()
 
 
-def until(is_so):
-    """Waits until something is so."""
-    end = time.monotonic() + LIMIT
-    while not (found := is_so()):
-        if time.monotonic() > end:
-            raise TimeoutError("what was waited for did not come")
-        time.sleep(0.02)
-    return found
-
-
 def begun(name, *words, **how):
     """A program of the example."""
     return subprocess.Popen([sys.executable, os.path.join(FLEET, name), *words], **how)
@@ -77,33 +69,20 @@ def ran(name, *words, given=b""):
     return found.returncode, found.stdout.decode(), found.stderr.decode()
 
 
-def pieces(store):
-    """The packets of a store."""
-    while store:
-        size = 7 + int.from_bytes(store[4:6], "big")
-        yield store[:size]
-        store = store[size:]
-
-
-class Fleet:
+class Fleet(Folder):
     """The packets of spacecraft as they came, in files that grow, and what the program restores of them."""
 
     def __init__(self, program, folder, number, packets):
-        self.program, self.folder, self.draw = program, folder, random.Random(84)
+        super().__init__(folder)
+        self.program, self.draw = program, random.Random(84)
         self.names = [f"SC-{one:05}" for one in range(number)]
-        self.write("fleet.json", json.dumps({name: APIDS for name in self.names}).encode())
-        self.write("streams", "".join(f"{apid},{bits}\n" for apid, bits in APIDS.items()).encode())
-        self.write("plan", b"0,4294967295,10,p\n9,4294967295,9,fr\n")
+        self.put("fleet.json", json.dumps({name: APIDS for name in self.names}))
+        self.put("streams", "".join(f"{apid},{bits}\n" for apid, bits in APIDS.items()))
+        self.put("plan", "0,4294967295,10,p\n9,4294967295,9,fr\n")
         recordings = {apid: [self.sent(apid, bits, packets) for _ in range(RECORDINGS)] for apid, bits in APIDS.items()}
         self.stores = {name: self.arrived({apid: self.draw.choice(some) for apid, some in recordings.items()}) for name in self.names}
         with ThreadPoolExecutor(os.cpu_count()) as pool:
             self.truth = dict(zip(self.names, pool.map(self.restored, self.names)))
-
-    def at(self, name):
-        return os.path.join(self.folder, name)
-
-    def write(self, name, content):
-        pathlib.Path(self.at(name)).write_bytes(content)
 
     def run(self, *words, given=b""):
         return subprocess.run([self.program, *words], input=given, capture_output=True, cwd=self.folder, check=True).stdout
@@ -114,7 +93,7 @@ class Fleet:
         for _ in range(number):
             own ^= 1 << self.draw.randrange(bits) | 1 << self.draw.randrange(8)
             recording += (own << -bits % 8).to_bytes((bits + 7) // 8, "big")
-        return list(pieces(self.run("compress", "in=-", "out=-", f"bits={bits}", f"apid={apid}", "robust=1", "plan=plan", given=recording)))
+        return list(packets_of(self.run("compress", "in=-", "out=-", f"bits={bits}", f"apid={apid}", "robust=1", "plan=plan", given=recording)))
 
     def arrived(self, streams):
         """What came of streams: woven into each other, some packets lost, some twice, some damaged, and some that are no stream's."""
@@ -135,15 +114,12 @@ class Fleet:
     def restored(self, name):
         """What `multi` gives of what came of a spacecraft."""
         store = self.run("multi", "in=-", "out=-", f"report={name}.truth", "streams=streams", given=self.stores[name])
-        told = pathlib.Path(self.at(name + ".truth"))
-        report = told.read_bytes()
-        told.unlink()
-        return report, store
+        return self.get(f"{name}.truth"), store
 
     def grow(self, part, whole, names=()):
         """Lets the files of spacecraft have more of what came, cut anywhere."""
         for name in names or self.names:
-            self.write(name + ".come", self.stores[name][:len(self.stores[name]) * part // whole])
+            self.put(name + ".come", self.stores[name][:len(self.stores[name]) * part // whole])
 
     def fed(self, engine, names, told=subprocess.DEVNULL):
         """Begins to feed the files of spacecraft."""
@@ -151,7 +127,7 @@ class Fleet:
 
     def differing(self, folder, names=()):
         """The spacecraft of which something else was read back."""
-        found = lambda name: tuple(pathlib.Path(folder, f"{name}.{kind}").read_bytes() for kind in ("report", "store"))
+        found = lambda name: tuple(Folder(folder).get(f"{name}.{kind}") for kind in ("report", "store"))
         return [name for name in names or self.names if found(name) != self.truth[name]]
 
 

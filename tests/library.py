@@ -1,7 +1,9 @@
 """The fixture of tests that call the library: it is built once of the proved one, for C and for the Python module."""
 
 import atexit
+import contextlib
 import functools
+import io
 import os
 import shutil
 import subprocess
@@ -18,13 +20,14 @@ PROVED = os.path.abspath(os.environ.get("PROVED", os.path.join(TOP, "crates", "p
 MODULE = os.path.join(TOP, "library", "python")
 STRICT = ["-Wall", "-Wextra", "-pedantic", "-Werror"]
 sys.path.insert(0, MODULE)
+from pocket.tool import ToolError
 
 
-def run(*words, given=b"", cwd=TOP, timeout=600):
+def run(*words, given=b"", cwd=TOP, stderr=subprocess.PIPE, timeout=600, **how):
     """What a command writes; one that does not end with 0 is an error."""
-    found = subprocess.run(words, input=given, capture_output=True, cwd=cwd, timeout=timeout)
+    found = subprocess.run(words, input=given, stdout=subprocess.PIPE, stderr=stderr, cwd=cwd, timeout=timeout, **how)
     if found.returncode:
-        raise RuntimeError(f"{words[0]} ended with {found.returncode}: {(found.stdout + found.stderr)[-400:]!r}")
+        raise RuntimeError(f"{words[0]} ended with {found.returncode}: {(found.stdout + (found.stderr or b''))[-1000:]!r}")
     return found.stdout
 
 
@@ -44,6 +47,24 @@ def built():
         os.stat(PROVED)  # (else make would prove it)
         run("make", "-s", "lib", f"BUILD={room.folder}", f"PROVED={PROVED}")
     return room
+
+
+class ToolFolder(Folder):
+    """A folder, and the tools of the Python module over files in it."""
+
+    def run(self, tool, *words):
+        """What a tool writes, or the text of its refusal. What it tells is kept."""
+        named = [f"{key}={self.at(value)}" if key in ("table", "report", "fields", "in", "script") else f"{key}={value}"
+                 for key, _, value in (word.partition("=") for word in words)]
+        told = io.StringIO()
+        try:
+            with contextlib.redirect_stderr(told):
+                tool.run([*named, "out=" + self.at("out")])
+            return self.get("out")
+        except ToolError as error:
+            return str(error).replace(self.folder + os.sep, "")
+        finally:
+            self.told = told.getvalue().replace(self.folder + os.sep, "")
 
 
 class LibraryTest(unittest.TestCase):

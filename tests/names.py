@@ -70,11 +70,6 @@ def is_law(name):
     return any(name in LAWS[crate] and name in exported(crate) for crate in CRATES)
 
 
-def unexported():
-    """The laws that their crate doesn't give to others."""
-    return [f"crates/{crate}/src/lib.rt: {name}" for crate in CRATES for name in sorted(LAWS[crate] - exported(crate))]
-
-
 def uncited(page, line):
     """What a line calls a law or a clause, or sets in a file, and is none there."""
     plain = re.sub(r" ?\([^()]*\)", "", line)
@@ -98,8 +93,8 @@ def listed(crate):
 
 
 def unknown():
-    """What the documents call a law, a clause or a definition, and the sources don't have."""
-    found = unexported()
+    """The laws that their crate doesn't give to others, and what the documents call a law, a clause or a definition and the sources don't have."""
+    found = [f"crates/{crate}/src/lib.rt: {name}" for crate in CRATES for name in sorted(LAWS[crate] - exported(crate))]
     for page in PAGES:
         for number, line in enumerate(page.read_text().splitlines(), 1):
             found += [f"{page.relative_to(ROOT)}:{number}: {name}" for name in uncited(page, line)]

@@ -34,8 +34,6 @@ class ProgramTest(unittest.TestCase):
         os.chmod(self.program, 0o755)
         os.chmod(self.room, 0o755)
         self.user = SIGNALS + (["setpriv", f"--reuid={NOBODY}", f"--regid={NOBODY}", "--clear-groups"] if self.is_root else [])
-        self.begun = []
-        self.addCleanup(self.end_all)
 
     def folder(self, before):
         """A new folder with these files."""
@@ -55,16 +53,10 @@ class ProgramTest(unittest.TestCase):
         return self.begin(self.user + [self.program] + (words.split() if isinstance(words, str) else words), **how)
 
     def begin(self, command, **how):
-        """Starts the program, or a reader or a writer beside it."""
-        self.begun.append(subprocess.Popen(command, umask=0o022, **how))
-        return self.begun[-1]
-
-    def end_all(self):
-        """Ends what still runs."""
-        for program in self.begun:
-            if program.poll() is None:
-                program.kill()
-                program.communicate()
+        """Starts the program, or a reader or a writer beside it, which the test's end ends."""
+        program = self.enterContext(subprocess.Popen(command, umask=0o022, **how))
+        self.addCleanup(program.kill)
+        return program
 
     def each(self, rows):
         """Runs each row of a table. Some need a file of another user, and are run by root alone."""
@@ -125,13 +117,14 @@ def ended(program, given=None):
     return program.returncode, out or b"", err or b""
 
 
-def wait_for(is_so):
-    """Waits until something is so, and fails if it takes too long."""
-    end = time.monotonic() + LIMIT
-    while not is_so():
+def wait_for(is_so, limit=LIMIT):
+    """Waits until something is so, which it gives, and fails if it takes too long."""
+    end = time.monotonic() + limit
+    while not (found := is_so()):
         if time.monotonic() > end:
             raise TimeoutError("what was waited for did not come")
         time.sleep(0.002)
+    return found
 
 
 def unread_pipe():

@@ -12,7 +12,7 @@ SECOND = bytes.fromhex("0064C0010003424B8D62")
 THIRD = bytes.fromhex("0064C002000144C0")
 FOURTH = bytes.fromhex("0064C0030002C085C0")
 STORE = FIRST + SECOND + THIRD + FOURTH
-PLAYED = FIRST + SECOND + FOURTH
+PLAYED, SWAPPED, RESTORED = FIRST + SECOND + FOURTH, FIRST + THIRD + SECOND + FOURTH, bytes.fromhex("B0B1B3")
 HEADER = b"first,last,cause,value\n"
 REPORT = HEADER + b"2,2,lost,0\nend,3,3,0\n"
 LISTING = b"0 written 1 00 00 b0\n1 written 1 01 01 b1\n2-2 lost\n3 written 1 02 03 b3\nend 3 3 0\n"
@@ -90,7 +90,7 @@ VERBS = [
          before={"x": bytes.fromhex("00010303"), "s": b"robust,2,3,1,2\n"},
          after={"y": bytes.fromhex("0064C000000381B8C0000064C001000142C00064C0020004222C0B8C060064C00300012370")}),
     case("play", PLAY, before={"x": STORE, "s": b"drop,2,2,1\n"}, after={"y": PLAYED, "z": PLAY_REPORT, "y.part": None, "z.part": None}),
-    case("restore", RESTORE, before={"x": PLAYED}, after={"y": bytes.fromhex("B0B1B3"), "z": REPORT, "y.part": None, "z.part": None}),
+    case("restore", RESTORE, before={"x": PLAYED}, after={"y": RESTORED, "z": REPORT, "y.part": None, "z.part": None}),
     case("show", SHOW, before={"x": PLAYED}, after={"x": PLAYED, "y": LISTING, "y.part": None}),
     case("show from a pipe to a pipe", "show in=- out=- bits=8 apid=100", given=PLAYED, out=LISTING),
     case("keys in another order", "compress robust=1 apid=100 bits=8 out=y in=x", before={"x": RECORDING}, after={"y": STORE}),
@@ -99,7 +99,7 @@ VERBS = [
     case("play to a pipe", "play in=x out=y report=- apid=100 script=-", given=b"drop,2,2,1\n", out=PLAY_REPORT,
          before={"x": STORE}, after={"y": PLAYED}),
     case("restore with the report on a pipe", "restore in=- out=y report=- bits=8 apid=100", given=PLAYED, out=REPORT,
-         after={"y": bytes.fromhex("B0B1B3")}),
+         after={"y": RESTORED}),
     case("trial", TRIAL, out=SUMMARY),
     case("trial to a file", TRIAL[:-1] + "y", after={"y": SUMMARY, "y.part": None}),
     *[case(f"trial {numbers}", "trial seed=%d packets=%d bits=%d robust=%d out=-" % numbers, out=summary(*numbers)) for numbers in TRIALS],
@@ -119,10 +119,10 @@ VERBS = [
     case("forecast", FORECAST, before={"s": sample("pass.csv"), "x": sample("fades.csv")}, after={"y": FORECASTED, "y.part": None}),
     case("forecast from a pipe to a pipe", "forecast out=- packets=6 robust=1 plan=s script=-", given=b"drop,2,3,1", out=SIX, before={"s": b"5,5,1,fr"}),
     case("forecast without rows", FORECAST, before={"s": b"", "x": b""}, after={"y": b"first,last,state\n0,999,sure\ngaps,0,1\nend,1000,1000\n"}),
-    case("late", "late in=x out=y report=z bits=8 apid=100 window=1", before={"x": bytes.fromhex("0064C000000385B8D6000064C002000144C00064C0010003424B8D620064C0030002C085C0")},
-         after={"y": bytes.fromhex("B0B1B1B3"), "z": HEADER + b"end,4,4,0\nlate,0\n", "y.part": None, "z.part": None}),
+    case("late", "late in=x out=y report=z bits=8 apid=100 window=1", before={"x": SWAPPED},
+         after={"y": RECORDING, "z": HEADER + b"end,4,4,0\nlate,0\n", "y.part": None, "z.part": None}),
     case("late beyond the window", "late in=x out=y report=- bits=8 apid=100 window=0", out=HEADER + b"1,1,lost,0\nend,3,3,0\nlate,1\n",
-         before={"x": bytes.fromhex("0064C000000385B8D6000064C002000144C00064C0010003424B8D620064C0030002C085C0")}, after={"y": bytes.fromhex("B0B1B3")}),
+         before={"x": SWAPPED}, after={"y": RESTORED}),
     case("version", "--version", out=b"pocket 1.1.0\n"),
     case("help", "--help", out=HELP),
     case("help in one letter", "-h", out=HELP),

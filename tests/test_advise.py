@@ -1,17 +1,12 @@
 """`python3 -m pocket advise` over random losses: under the schedule that it writes `forecast` calls every packet sure that arrives, whichever
 shift of the losses comes, and it finds one where a walk of its own over the packets does."""
 
-import contextlib
-import io
-import os
-import pathlib
 import random
 import tempfile
 from unittest import mock
 
-from library import LibraryTest
+from library import LibraryTest, ToolFolder
 from pocket import advise
-from pocket.tool import ToolError
 
 ROUNDS = 40
 
@@ -22,9 +17,7 @@ def heads_of(lost, packets, robust):
     for number in range(packets):
         if number in lost:
             continue
-        if number > robust and number - 1 - sure > robust:
-            found.append(number)
-        elif number > robust and sure < 0:
+        if number > robust and (sure < 0 or number - 1 - sure > robust):
             found.append(number)
         sure = number
     return found
@@ -39,17 +32,6 @@ def fewest(heads):
             if len({second - first for first, second in zip(run, run[1:])}) < 2:
                 least[end] = min(least[end], least[begin] + 1)
     return least[len(heads)]
-
-
-def told(words, folder):
-    """What the tool writes and says, or its refusal."""
-    out, err = os.path.join(folder, "out"), io.StringIO()
-    try:
-        with contextlib.redirect_stderr(err):
-            advise.run([*words, "out=" + out])
-        return pathlib.Path(out).read_bytes(), err.getvalue()
-    except ToolError as error:
-        return None, str(error)
 
 
 def later(rows, by, packets):
@@ -74,14 +56,14 @@ def drawn(draw, packets):
 
 class Advise(LibraryTest):
     def setUp(self):
-        self.folder = self.enterContext(tempfile.TemporaryDirectory(prefix="pocket-advise-"))
-        self.script = pathlib.Path(self.folder, "script")
+        self.files = ToolFolder(self.enterContext(tempfile.TemporaryDirectory(prefix="pocket-advise-")))
 
     def put(self, rows):
-        self.script.write_text("".join(f"drop,{first},{last},{step}\n" for first, last, step in rows))
+        self.files.put("script", "".join(f"drop,{first},{last},{step}\n" for first, last, step in rows))
 
-    def told(self, *words):
-        return told([*words, f"script={self.script}"], self.folder)
+    def plan(self, *words):
+        """The schedule that the tool writes, or its refusal; it tells more."""
+        return self.files.run(advise, *words, "script=script")
 
     def test_rounds(self):
         """Random losses: the rows that are found make all sure, under each shift that was said, and robust is no greater than with runs one
@@ -97,30 +79,31 @@ class Advise(LibraryTest):
         """Whether rows were found."""
         self.put(rows)
         lost = {number for first, last, step in rows for number in range(first, last + 1, step)}
-        plan, said = self.told(f"packets={packets}", f"rows={most}", *([f"shift={shift}"] if shift else []))
+        plan = self.plan(f"packets={packets}", f"rows={most}", *([f"shift={shift}"] if shift else []))
         wanted = next((robust for robust in range(8) if fewest(heads_of(lost, packets, robust)) <= most), None) if not shift else None
-        if plan is None:
-            self.assertEqual((wanted, said), (None, f"found no robust, 0 to 7, with at most {most} rows that make all sure that arrives"))
+        if isinstance(plan, str):
+            self.assertEqual((wanted, plan), (None, f"found no robust, 0 to 7, with at most {most} rows that make all sure that arrives"))
             return False
-        robust = int(said.split("robust=")[-1].split(",")[0])
-        self.assertTrue((wanted is None or robust <= wanted) and len(plan.splitlines()) <= most, f"{said}, and {wanted} does")
+        robust = int(self.files.told.split("robust=")[-1].split(",")[0])
+        self.assertTrue((wanted is None or robust <= wanted) and len(plan.splitlines()) <= most, f"{self.files.told}, and {wanted} does")
         self.assertEqual([by for by in range(-shift, shift + 1) if is_open(packets, robust, plan, later(rows, by, packets))], [])
         return True
 
     def test_fades(self):
         """Two fades in each hundred packets take two rows; what is missing, wrong or not there is refused."""
         self.put((first + k, 999, 100) for first in (16, 46) for k in range(3))
-        plan, said = self.told("packets=1000", "rows=3")
+        plan = self.plan("packets=1000", "rows=3")
         self.assertEqual(sorted(plan.splitlines()), [b"19,919,100,fr", b"49,949,100,fr"])
-        self.assertTrue(said.endswith("pocket advise: robust=0, 2 rows\n"), said)
+        self.assertRegex(self.files.told, "pocket advise: robust=0, 2 rows\n$")
         with mock.patch.object(advise, "SECONDS", 0):
-            self.assertTrue(self.told("packets=1000", "rows=3")[1].startswith("pocket advise: robust=0, 1 packets with whole content so far\n"))
-        script = self.script.read_bytes()
+            self.plan("packets=1000", "rows=3")
+        self.assertRegex(self.files.told, "^pocket advise: robust=0, 1 packets with whole content so far\n")
+        script = self.files.get("script")
         self.assertEqual(advise.by_program(("forecast", "packets=1000", "robust=0"), plan, script), advise.forecast(1000, 0, plan, script))
-        self.script.write_bytes(script + b"drop,5,3,1\n")
-        self.assertEqual(self.told("packets=1000", "rows=3", "shift=1")[1], "script row 7 is wrong")
-        self.assertEqual(told(["packets=9"], self.folder)[1], "script= is missing")
-        self.assertEqual(told(["packets=0", "script=x", "rows=1"], self.folder)[1], "packets=0: packets= takes a number from 1 to 1000000")
+        self.files.put("script", script + b"drop,5,3,1\n")
+        self.assertEqual(self.plan("packets=1000", "rows=3", "shift=1"), "script row 7 is wrong")
+        self.assertEqual(self.files.run(advise, "packets=9"), "script= is missing")
+        self.assertEqual(self.plan("packets=0", "rows=1"), "packets=0: packets= takes a number from 1 to 1000000")
 
     def test_shifts(self):
         """Rows that come earlier, and later."""

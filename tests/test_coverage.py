@@ -5,6 +5,7 @@ over it, each with what it has to give. gcov tells how often each line was reach
 told by their text without the numbers of variables and labels: so a new line without a test is seen, and so is a reason that is none any
 more. `python3 tests/test_coverage.py` prints the shares, and each stretch that isn't listed."""
 
+import itertools
 import json
 import os
 import re
@@ -70,16 +71,8 @@ def plain(line):
 
 def stretches(lines, counts):
     """Those lines, one after another, that no call reached: each stretch the number of its first line, and its text. A label alone is none."""
-    found, is_open = [], False
-    for number in sorted(counts):
-        text = plain(lines[number - 1])
-        if counts[number]:
-            is_open = False
-        elif is_open:
-            found[-1][1].append(text)
-        else:
-            found.append((number, [text]))
-            is_open = True
+    runs = [list(run) for is_reached, run in itertools.groupby(sorted(counts), lambda number: counts[number] > 0) if not is_reached]
+    found = [(run[0], [plain(lines[number - 1]) for number in run]) for run in runs]
     return [(number, "\n".join(texts)) for number, texts in found if not all(re.fullmatch(r"[BL]\w*:;?", it) for it in texts)]
 
 

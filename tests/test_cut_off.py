@@ -1,38 +1,35 @@
 """Runs that are cut off, and runs whose files, folders, memory or disk change or end meanwhile: each name keeps what it had."""
 
+import contextlib
 import os
 import resource
 import signal
 import subprocess
 import threading
 
-from program import ProgramTest, ended, got, wait_for
-from rows import COMPRESS, PLAYED, RECORDING, REPORT, STORE, WRITE
+from program import Folder, ProgramTest, ended, got, wait_for
+from rows import COMPRESS, PLAYED, RECORDING, REPORT, RESTORED, STORE, WRITE
 
 OLD = b"yesterday"
 # Second lines are told here, in a pipe too.
 TOLD = dict(os.environ, POCKET_EXPLAIN="1")
 REPLACED = b"its part is gone, or another run has taken its place\n"
-RESTORED = bytes.fromhex("B0B1B3")
 FROM_PIPE = "compress in=- out=y bits=8 apid=100 robust=1"
 RESTORE_PIPE = "restore in=- out=y report=z bits=8 apid=100"
 # Packets of 1,024 bits, each whole, so that the system gets much of the store before the end.
 MUCH = "compress in=- out=y bits=1024 apid=100 robust=7 plan=s"
 
 
-class Waiting:
-    """A run that reads standard input, once its parts are there."""
+class Waiting(Folder):
+    """The folder of a run that reads standard input, once its parts are there."""
 
     def __init__(self, test, words, before, parts):
-        self.folder = test.folder(before)
+        super().__init__(test.folder(before))
         self.program = test.start(words, cwd=self.folder, env=TOLD)
-        wait_for(lambda: all(os.path.lexists(self.path(name)) for name in parts))
-
-    def path(self, name):
-        return os.path.join(self.folder, name)
+        wait_for(lambda: all(os.path.lexists(self.at(name)) for name in parts))
 
     def got(self, *names):
-        return [got(self.path(name)) for name in names]
+        return [self.get(name) for name in names]
 
 
 class CutOff(ProgramTest):
@@ -43,7 +40,7 @@ class CutOff(ProgramTest):
                 run = Waiting(self, MUCH, {"y": OLD, "s": b"0,4294967295,1,fr\n"}, ["y.part"])
                 run.program.stdin.write(os.urandom(1 << 20))
                 run.program.stdin.flush()
-                wait_for(lambda: os.path.getsize(run.path("y.part")) > 0)
+                wait_for(lambda: os.path.getsize(run.at("y.part")) > 0)
                 during = run.got("y")
                 run.program.send_signal(number)
                 self.assertEqual((ended(run.program), during, run.got("y")), ((-number, b"", b""), [OLD], [OLD]))
@@ -60,9 +57,9 @@ class CutOff(ProgramTest):
     def two_at_once(self, words, other, shared, data):
         """How two runs end, of which the second replaced the shared part, with the same input each; and what y has after the first one."""
         first = Waiting(self, words, {"y": OLD}, ["y.part", shared])
-        node = os.lstat(first.path(shared)).st_ino
+        node = os.lstat(first.at(shared)).st_ino
         second = self.start(other, cwd=first.folder)
-        wait_for(lambda: os.path.lexists(first.path(shared)) and os.lstat(first.path(shared)).st_ino != node)
+        wait_for(lambda: os.path.lexists(first.at(shared)) and os.lstat(first.at(shared)).st_ino != node)
         return first, [ended(first.program, data), first.got("y"), ended(second, data)]
 
     def test_two_at_one_name(self):
@@ -105,9 +102,11 @@ class CutOff(ProgramTest):
         for _ in range(20):
             folder = self.folder({"x": RECORDING, "k": OLD, "y.part": b"earlier"})
             ending = threading.Event()
-            threading.Thread(target=link_when_gone, args=(os.path.join(folder, "y.part"), "k", ending), daemon=True).start()
+            beside = threading.Thread(target=link_when_gone, args=(os.path.join(folder, "y.part"), "k", ending), daemon=True)
+            beside.start()
             found = ended(self.start(COMPRESS, cwd=folder))
             ending.set()
+            beside.join()
             left = [got(os.path.join(folder, name)) for name in ("y", "k")]
             self.assertIn((found, left), [((0, b"", b""), [STORE, OLD]), ((1, b"", WRITE), [None, OLD])])
 
@@ -147,7 +146,5 @@ def has_open(program, path):
 def link_when_gone(path, target, ending):
     """Makes a link as soon as no file has its name."""
     while not ending.is_set():
-        try:
+        with contextlib.suppress(FileExistsError):
             return os.symlink(target, path)
-        except FileExistsError:
-            pass

@@ -52,16 +52,6 @@ def ranges_of_page(page):
     return found
 
 
-def exits_of_help(text):
-    """The exit statuses."""
-    return re.findall(r"^    (\d)  ", text.split("Exit status:")[1], re.M)
-
-
-def with_commas(number):
-    """A number as docs/OPERATING.md writes it: one of more than four digits has commas, and so may one of four."""
-    return f"{int(number):,}" if len(number) > 4 else number
-
-
 def day_lacks(day, verbs, ranges, exits):
     """What docs/OPERATING.md doesn't have of these."""
     for verb, keys in verbs.items():
@@ -70,8 +60,8 @@ def day_lacks(day, verbs, ranges, exits):
         yield from (f"docs/OPERATING.md names no key {key}" for key in keys if f"`{key}`" not in day and f" {key}=" not in day)
     for key, pairs in ranges.items():
         for low, high in pairs:
-            wanted = {f"{low} to {with_commas(high)}", f"{low} to {int(high):,}"}
-            if not any(it in day for it in wanted):
+            # (a number of more than four digits has commas, and so may one of four)
+            if not any(f"{low} to {form}" in day for form in [f"{int(high):,}", *[high] * (len(high) < 5)]):
                 yield f"docs/OPERATING.md has no range {low} to {high} of {key}"
     yield from (f"docs/OPERATING.md has no exit status {it}" for it in exits if f"\n| {it} |" not in day)
 
@@ -86,7 +76,8 @@ class Documents(unittest.TestCase):
     def setUpClass(cls):
         help_text = text_of("crates/pocket/src/main.rt").split('const HELP: &str = "\\\n')[1].split('";')[0]
         cls.page, cls.readme = text_of("docs/pocket.1"), text_of("README.md")
-        cls.verbs, cls.ranges, cls.exits = verbs_of_help(help_text), ranges_of_help(help_text), exits_of_help(help_text)
+        cls.verbs, cls.ranges = verbs_of_help(help_text), ranges_of_help(help_text)
+        cls.exits = re.findall(r"^    (\d)  ", help_text.split("Exit status:")[1], re.M)
 
     def test_manual_page(self):
         self.assertEqual(verbs_of_page(self.page), self.verbs)

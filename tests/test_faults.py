@@ -16,6 +16,7 @@ import tempfile
 import unittest
 
 from program import PROGRAM, SAMPLES, TOP, Folder
+from rows import SWAPPED
 
 # Each command: its words, and how many outputs it has. An input is a sample, or made below.
 COMMANDS = {
@@ -32,9 +33,6 @@ COMMANDS = {
 
 # The inputs that the output of a command becomes.
 BECOMES = {"compress": ["store"], "play": ["played"]}
-
-# Four packets that come in the order 0, 2, 1, 3.
-SWAPPED = bytes.fromhex("0064C000000385B8D600 0064C002000144C0 0064C0010003424B8D62 0064C0030002C085C0")
 
 # The command whose memory depends on how many packets there are, since it holds them.
 HOLDING = {"trial"}
@@ -58,8 +56,7 @@ class Runner(Folder):
     def __init__(self, folder):
         super().__init__(folder)
         subprocess.run(["gcc", "-O1", "-shared", "-fPIC", "-o", self.at("faults.so"), os.path.join(TOP, "tests", "c", "faults.c"), "-ldl"], check=True)
-        for name in os.listdir(SAMPLES):
-            shutil.copyfile(os.path.join(SAMPLES, name), self.at(name))
+        shutil.copytree(SAMPLES, folder, dirs_exist_ok=True)
         self.put("swapped", SWAPPED)
 
     def run(self, words, kind="", nth=0):

@@ -2,10 +2,9 @@
 stand there is worked out by hand, from docs/FORMATS.md."""
 
 from program import ProgramTest
-from rows import (COMPRESS, FIELDS, FIRST, HEADER, LATE, MULTI, PLAY, PLAYED, READ, RECORDING, REPORT, RESTORE, STORE, STREAMED, STREAMS, TABLE,
-                  TABLED, TWO_STREAMS, WRITE, case)
+from rows import (COMPRESS, FIELDS, FIRST, HEADER, LATE, MULTI, PLAY, PLAYED, READ, RECORDING, REPORT, RESTORE, RESTORED, STORE, STREAMED, STREAMS,
+                  TABLE, TABLED, TWO_STREAMS, WRITE, case)
 
-RESTORED = bytes.fromhex("B0B1B3")
 OLD = b"yesterday, which was longer than what comes today: " + b"old " * 20
 # A recording whose packet 1 is cut, the refusal of it with packets of 13 bits, and what stands in the part then.
 CUT, CUT_TEXT, CUT_PART = bytes.fromhex("123812"), b"pocket: recording ends inside packet 1\n", bytes.fromhex("0064C000000381B96247")

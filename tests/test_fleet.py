@@ -4,6 +4,7 @@ What is read back is what the program's `multi` gives of each spacecraft's packe
 import contextlib
 import io
 import itertools
+import json
 import os
 import signal
 import subprocess
@@ -15,13 +16,15 @@ import zlib
 from unittest import mock
 
 from library import LibraryTest, need
+from packets import packets_of
 from program import PROGRAM, SAMPLES
+from rows import sample
 
 try:
     import redis
 except ImportError:
     raise unittest.SkipTest("this Python has no python3-redis") from None
-from fleet_parts import APIDS, FLEET, Engine, Fleet, Keeper, begun, pieces, ran, until, wait
+from fleet_parts import APIDS, FLEET, Engine, Fleet, Keeper, begun, ran, until, wait
 
 sys.path.insert(0, FLEET)
 import feed
@@ -50,76 +53,6 @@ def upset(draw, engine, *keepers):
             {"worker": workers, "reader": reader, "feeder": feeders}[kind].signal(draw, signal.SIGKILL)
 
 
-def whole_run(fleet, engine, folder, rounds):
-    """Feeds, judges and reads all, and kills in each round: whether what was read back is that of the program, and all was counted."""
-    told = open(fleet.at("told"), "a+b")
-    workers = Keeper([lambda: begun("work.py", engine.place, str(LEASE), stderr=told)] * WORKERS)
-    reader = Keeper([lambda: begun("read.py", engine.place, folder, stderr=told)])
-    feeders, begun_anew = Keeper([]), 0
-    try:
-        for part in range(1, rounds + 1):
-            fleet.grow(part, rounds)
-            feeders = Keeper([lambda some=fleet.names[one::4]: fleet.fed(engine, some, told) for one in range(4)])
-            upset(fleet.draw, engine, workers, reader, feeders)
-            until(lambda: (workers.are_done(), reader.are_done(), feeders.are_done())[2])
-            begun_anew += feeders.restarts
-        assert ran("feed.py", engine.place, fleet.at("fleet.json"), "end")[0] == 0
-        until(lambda: (workers.are_done(), reader.are_done()) == (True, True))
-    finally:
-        for keeper in (workers, reader, feeders):
-            keeper.end()
-    print(f"fleet: begun anew: {workers.restarts} workers, {reader.restarts} readers, {begun_anew} feeders", flush=True)
-    differing, packets = fleet.differing(folder), sum(len(list(pieces(store))) for store in fleet.stores.values())
-    yield "what is read back is what the program restores of each spacecraft", not differing or differing[:5]
-    rows = ran("read.py", engine.place)[1].splitlines()
-    yield "each packet is counted once", (len(rows), rows[-1]) == (len(fleet.names) + 2, f"all,{packets},{packets},0") or rows[-1]
-    with told:
-        told.seek(0)
-        text = told.read().decode()
-    yield "nothing that ended told a traceback", "Traceback" not in text or text[text.index("Traceback"):][:900]
-
-
-def small(fleet, engine):
-    """Three spacecraft, of whose packets half is fed and not judged."""
-    engine.client.flushall()
-    names = fleet.names[:3]
-    fleet.grow(1, 2, names)
-    assert fleet.fed(engine, names).wait() == 0
-    return work.opened(engine.place), names
-
-
-def read_back(fleet, engine, names, folder):
-    """Whether a feeder, a worker and a reader that are begun now give what the program restores of spacecraft."""
-    os.makedirs(folder, exist_ok=True)
-    fleet.grow(1, 1, names)
-    words = [f"{name}={fleet.at(name)}.come" for name in names] + ["end"]
-    ended = [ran("feed.py", engine.place, fleet.at("fleet.json"), *words), ran("work.py", engine.place, "0.5"), ran("read.py", engine.place, folder)]
-    return ended == [(0, "", "")] * 3 and not [name for name in fleet.differing(folder, names)] or ended
-
-
-def late(fleet, engine, folder):
-    """Whether a worker that hangs with a batch in hand, until another has judged it and the one after it, writes nothing."""
-    client, names = small(fleet, engine)
-    judged, refused = work.judged, []
-
-    def hung(*words):
-        work.judged = judged
-        work.turn(client, partition)
-        fleet.grow(3, 4, names)
-        assert fleet.fed(engine, names).wait() == 0
-        work.turn(client, partition)
-        return judged(*words)
-
-    for partition in work.waiting(client)[1]:
-        work.judged = hung
-        try:
-            work.turn(client, partition)
-        except redis.WatchError:
-            refused.append(partition)
-    work.judged = judged
-    return read_back(fleet, engine, names, folder) if refused else "it wrote"
-
-
 class Died(BaseException):
     """A program ends here."""
 
@@ -140,156 +73,196 @@ def dying(place, is_sent, kind):
         yield
 
 
-def fed_here(fleet, engine, name):
-    """Feeds what came of a spacecraft, in this process."""
-    with contextlib.redirect_stderr(io.StringIO()):
-        feed.feed(feed.opened(engine.place), name, {str(apid): bits for apid, bits in APIDS.items()}, fleet.at(name) + ".come")
-
-
-def at_calls(fleet, engine, folder):
-    """Whether a feeder, a worker and a reader that end, or whose connection does, at any call to the engine leave all as it was, or done."""
-    engine.client.flushall()
-    os.makedirs(folder)
-    names, never = fleet.names[:3], (99, False, Died)
-    deaths = list(itertools.product(range(8), (False, True), (Died, redis.ConnectionError)))
-    for part, death in enumerate(deaths, 1):
-        fleet.grow(part, len(deaths) + 1, names)
-        for how in (death, never):
-            for name in names:
-                with dying(*how):
-                    fed_here(fleet, engine, name)
-        for how in (death, never):
-            for partition in feed.waiting(engine.client)[1]:
-                with dying(*how):
-                    work.turn(redis.Redis("127.0.0.1", engine.port), partition)
-        for partition in range(feed.PARTITIONS):
-            with dying(*death):
-                read.write(redis.Redis("127.0.0.1", engine.port), folder, f"fleet:found:{partition}", {}, None)
-    return read_back(fleet, engine, names, folder)
-
-
-def both(fleet, engine, folder):
-    """Whether two feeders of one file put its packets once, if one comes between what the other asks and puts, which may be refused then."""
-    engine.client.flushall()
-    names, crc32, begun_here = fleet.names[:3], zlib.crc32, []
-    fleet.grow(1, 1, names)
-
-    def between(text):
-        if len(begun_here) % 2 == 0:
-            begun_here.append(text)
-            fed_here(fleet, engine, text.decode())
-        return crc32(text)
-
-    for name in names:
-        with mock.patch.object(zlib, "crc32", between), contextlib.suppress(feed.PocketError):
-            fed_here(fleet, engine, name)
-        begun_here.append(name)
-    return read_back(fleet, engine, names, folder)
-
-
-def dead(fleet, engine, folder):
-    """Whether the partitions of a dead worker are left to it for the lease, and taken after it."""
-    client, names = small(fleet, engine)
-    for partition in range(client.xlen(work.LEASES)):
-        client.xclaim(work.LEASES, work.GROUP, "dead", 0, [f"{partition + 1}-0"], force=True)
-    worker = begun("work.py", engine.place, "1000")
-    time.sleep(1)
-    untouched = all(client.hget(f"fleet:state:{name}", "packets") is None for name in names)
-    worker.kill()
-    worker.wait()
-    return read_back(fleet, engine, names, folder) if untouched else "it was not left alone"
-
-
-def piped(fleet, engine, folder):
-    """Whether a pipe is fed whole that comes slowly, while the server is killed and begun again."""
-    client, name = small(fleet, engine)[0], fleet.names[3]
-    feeder = begun("feed.py", engine.place, fleet.at("fleet.json"), name + "=-", stdin=subprocess.PIPE)
-    store, size = fleet.stores[name], len(fleet.stores[name]) // 8
-    for at in range(0, len(store), size):
-        feeder.stdin.write(store[at:at + size])
-        feeder.stdin.flush()
-        if at == 0:
-            until(lambda: client.hget(f"fleet:fed:{name}", "packets"))
-        elif at in (2 * size, 5 * size):
-            engine.kill()
-            time.sleep(0.3)
-            engine.start()
-    feeder.stdin.close()
-    if feeder.wait():
-        return "the feeder ended"
-    return read_back(fleet, engine, fleet.names[:3], folder) is True and not fleet.differing(folder, [name])
-
-
-def points(fleet, engine, folder):
-    """Whether the points that are printed are those of the tool `numbers` over what the program restores."""
-    engine.client.flushall()
-    os.makedirs(folder)
-    times = ["apid=100", "start=2026-11-30T06:00:00Z", "step=1", "fields=" + os.path.join(SAMPLES, "hk.csv")]
-    fleet.write("script", b"drop,3,4,1\ndrop,20,22,1\n")
-    fleet.run("play", "in=" + os.path.join(SAMPLES, "hk.store"), "out=hk.come", "report=-", "script=script", "apid=100")
-    fleet.run("restore", "in=hk.come", "out=hk.rec", "report=hk.report", "bits=64", "apid=100")
-    fleet.run("multi", "in=hk.come", "out=-", "report=hk.multi", "streams=streams")
-    fleet.run("table", "in=hk.rec", "out=hk.table", "report=-", times[3], "bits=64")
-    words = ["table=hk.table", "report=hk.multi", "as=influx", "bits=64", "tag=spacecraft:SC-00000", *times]
-    wanted = subprocess.run([sys.executable, "-m", "pocket", "numbers", *words], cwd=fleet.folder, capture_output=True, check=True).stdout.decode()
-    ended = [ran("feed.py", engine.place, fleet.at("fleet.json"), "SC-00000=" + fleet.at("hk.come"), "end"), ran("work.py", engine.place)]
-    found = ran("read.py", engine.place, folder, *times)
-    return (ended, found) == ([(0, "", "")] * 2, (0, wanted, "")) and wanted.count("\n") > 30 or (ended, found)
-
-
-def refusals(fleet, engine, folder):
-    """What is refused, each in a line: the words, and what the line says."""
-    os.makedirs(folder)
-    engine.client.flushall()
-    packets, wrong = fleet.stores[fleet.names[0]], fleet.at("wrong")
-    fleet.grow(1, 1, fleet.names[:1])
-    place = len(next(pieces(packets)))
-    fleet.write("other", packets[:place] + bytes.fromhex("2064C000000011") + packets[place:])
-    fleet.write("wrong", b'{"SC-00000": {"100": 65}, "SC-00001": {"100": "64"}, "SC-00002": {"2047": 1}, "SC-00003": {"1": 49153}, "SC-00004": [], "../a": {}}')
-    fleet.write("cut", b'{"SC-00000":\n')
-    first, streams = f"SC-00000={fleet.at('hk.come')}", fleet.at("fleet.json")
-    assert ran("feed.py", engine.place, streams, first)[0] == 0
-    rows = [("feed.py", [engine.place, fleet.at("cut")], "Expecting value: line 2 column 1"), ("feed.py", [engine.place, "nothing"], "nothing"),
-            ("feed.py", [engine.place, wrong, f"SC-00000={fleet.at('SC-00000.come')}"], "its streams are others than before"),
-            *(("feed.py", [engine.place, wrong, f"{name}={fleet.at('hk.come')}"], f"{name}={fleet.at('hk.come')}: {text}") for name, text in
-              [("SC-00001", "'str' object"), ("SC-00002", "an APID is not"), ("SC-00003", "a vector has 1 to 49152"), ("SC-00004", "'list' object"),
-               ("SC-00005", f"{wrong} has no streams of it"), ("../a", "a spacecraft is named as a file is")]),
-            ("feed.py", [engine.place, streams, "SC-00000=" + fleet.at("other")], f"the packet at byte {place} is of another version"),
-            ("feed.py", [engine.place, streams, "SC-00001=nothing"], "No such file or directory: 'nothing'"), ("feed.py", ["localhost", streams], "invalid literal"),
-            ("work.py", ["localhost:1"], "Connection refused"), ("work.py", [engine.place, "soon"], "could not convert"), ("read.py", [engine.place, folder, "apid=1"], "fields="),
-            ("read.py", [engine.place, folder, "fields=x", "apid=1", "step=1"], "start=")]
-    for name, words, text in rows:
-        status, out, told = ran(name, *words)
-        if (status, out, told.count("\n")) != (1, "", 1) or text not in told:
-            yield f"{name} {' '.join(words[1:])} is refused", (status, out, told)
-    yield "what is wrong is told in a line", True
-
-
 class Spacecraft(LibraryTest):
-    def setUp(self):
+    @classmethod
+    def setUpClass(cls):
+        super().setUpClass()
         need("redis-server")
-        self.folder = self.enterContext(tempfile.TemporaryDirectory(prefix="pocket-fleet-"))
-        self.engine = Engine(self.folder)
-        self.engine.start()
-        self.addCleanup(self.engine.kill)
+        folder = cls.enterClassContext(tempfile.TemporaryDirectory(prefix="pocket-fleet-"))
+        cls.engine = Engine(folder)
+        cls.engine.start()
+        cls.addClassCleanup(cls.engine.kill)
+        cls.fleet = Fleet(PROGRAM, folder, SPACECRAFT, PACKETS)
 
-    def test_fleet(self):
-        fleet = Fleet(PROGRAM, self.folder, SPACECRAFT, PACKETS)
-        for name, found in checks(fleet, self.engine, self.folder):
-            with self.subTest(name):
-                self.assertIs(found, True)
+    def setUp(self):
+        self.engine.client.flushall()
+        self.folder, self.names = tempfile.mkdtemp(dir=self.fleet.folder), self.fleet.names[:3]
 
+    def small(self):
+        """Feeds half of the packets of three spacecraft, which are not judged."""
+        self.fleet.grow(1, 2, self.names)
+        self.assertEqual(self.fleet.fed(self.engine, self.names).wait(), 0)
+        return work.opened(self.engine.place)
 
-def checks(fleet, engine, folder):
-    """All that is tried: each with its name, and whether it is so, or what else."""
-    for name, check in [("a worker that hangs longer than its lease writes nothing", late), ("a dead worker's partitions are taken back", dead),
-                        ("each end at a call to the engine", at_calls), ("two feeders of one file", both),
-                        ("a pipe is fed while the server is begun again", piped), ("the points of a spacecraft", points)]:
-        try:
-            yield name, check(fleet, engine, os.path.join(folder, check.__name__))
-        except Exception as error:
-            yield name, f"it raised {error!r}"
-    yield from refusals(fleet, engine, os.path.join(folder, "refusals"))
-    engine.client.flushall()
-    os.makedirs(os.path.join(folder, "whole"))
-    yield from whole_run(fleet, engine, os.path.join(folder, "whole"), ROUNDS)
+    def reads_back(self):
+        """A feeder, a worker and a reader that are begun now give what the program restores of the three."""
+        self.fleet.grow(1, 1, self.names)
+        words = [f"{name}={self.fleet.at(name)}.come" for name in self.names] + ["end"]
+        for name, *more in (("feed.py", self.fleet.at("fleet.json"), *words), ("work.py", "0.5"), ("read.py", self.folder)):
+            self.assertEqual(ran(name, self.engine.place, *more), (0, "", ""), name)
+        self.assertEqual(self.fleet.differing(self.folder, self.names), [])
+
+    def feed_here(self, name):
+        """Feeds what came of a spacecraft, in this process."""
+        with contextlib.redirect_stderr(io.StringIO()):
+            feed.feed(feed.opened(self.engine.place), name, {str(apid): bits for apid, bits in APIDS.items()}, self.fleet.at(name) + ".come")
+
+    def test_hanging(self):
+        """A worker that hangs with a batch in hand, until another has judged it and the one after it, writes nothing."""
+        client, judged, refused = self.small(), work.judged, []
+
+        def hung(*words):
+            work.judged = judged
+            work.turn(client, partition)
+            self.fleet.grow(3, 4, self.names)
+            self.assertEqual(self.fleet.fed(self.engine, self.names).wait(), 0)
+            work.turn(client, partition)
+            return judged(*words)
+
+        for partition in work.waiting(client)[1]:
+            with mock.patch.object(work, "judged", hung):
+                try:
+                    work.turn(client, partition)
+                except redis.WatchError:
+                    refused.append(partition)
+        self.assertTrue(refused, "it wrote")
+        self.reads_back()
+
+    def test_dead(self):
+        """The partitions of a dead worker are left to it for the lease, and taken after it."""
+        client = self.small()
+        for partition in range(client.xlen(work.LEASES)):
+            client.xclaim(work.LEASES, work.GROUP, "dead", 0, [f"{partition + 1}-0"], force=True)
+        known, worker = len(client.client_list()), begun("work.py", self.engine.place, "1000")
+        until(lambda: len(client.client_list()) > known)
+        time.sleep(1)
+        self.assertEqual([client.hget(f"fleet:state:{name}", "packets") for name in self.names], [None] * 3)
+        worker.kill()
+        worker.wait()
+        self.reads_back()
+
+    def test_calls(self):
+        """A feeder, a worker and a reader that end, or whose connection does, at any call to the engine leave all as it was, or done."""
+        never, deaths = (99, False, Died), list(itertools.product(range(8), (False, True), (Died, redis.ConnectionError)))
+        for part, death in enumerate(deaths, 1):
+            self.fleet.grow(part, len(deaths) + 1, self.names)
+            for how in (death, never):
+                for name in self.names:
+                    with dying(*how):
+                        self.feed_here(name)
+            for how in (death, never):
+                for partition in feed.waiting(self.engine.client)[1]:
+                    with dying(*how):
+                        work.turn(redis.Redis("127.0.0.1", self.engine.port), partition)
+            for partition in range(feed.PARTITIONS):
+                with dying(*death):
+                    read.write(redis.Redis("127.0.0.1", self.engine.port), self.folder, f"fleet:found:{partition}", {}, None)
+        self.reads_back()
+
+    def test_two_feeders(self):
+        """Two feeders of one file put its packets once, if one comes between what the other asks and puts, which may be refused then."""
+        crc32, begun_here = zlib.crc32, []
+        self.fleet.grow(1, 1, self.names)
+
+        def between(text):
+            if len(begun_here) % 2 == 0:
+                begun_here.append(text)
+                self.feed_here(text.decode())
+            return crc32(text)
+
+        for name in self.names:
+            with mock.patch.object(zlib, "crc32", between), contextlib.suppress(feed.PocketError):
+                self.feed_here(name)
+            begun_here.append(name)
+        self.reads_back()
+
+    def test_pipe(self):
+        """A pipe is fed whole that comes slowly, while the server is killed and begun again."""
+        client, name = self.small(), self.fleet.names[3]
+        feeder = begun("feed.py", self.engine.place, self.fleet.at("fleet.json"), name + "=-", stdin=subprocess.PIPE)
+        store, size = self.fleet.stores[name], len(self.fleet.stores[name]) // 8
+        for at in range(0, len(store), size):
+            feeder.stdin.write(store[at:at + size])
+            feeder.stdin.flush()
+            if at == 0:
+                until(lambda: client.hget(f"fleet:fed:{name}", "packets"))
+            elif at in (2 * size, 5 * size):
+                self.engine.kill()
+                time.sleep(0.3)
+                self.engine.start()
+        feeder.stdin.close()
+        self.assertEqual(feeder.wait(), 0)
+        self.reads_back()
+        self.assertEqual(self.fleet.differing(self.folder, [name]), [])
+
+    def test_points(self):
+        """The points that are printed are those of the tool `numbers` over what the program restores."""
+        fleet, fields = self.fleet, "fields=" + os.path.join(SAMPLES, "hk.csv")
+        times = ["apid=100", "start=2026-11-30T06:00:00Z", "step=1", fields]
+        fleet.put("script", "drop,3,4,1\ndrop,20,22,1\n")
+        fleet.run("play", "in=" + os.path.join(SAMPLES, "hk.store"), "out=hk.come", "report=-", "script=script", "apid=100")
+        fleet.run("restore", "in=hk.come", "out=hk.rec", "report=hk.report", "bits=64", "apid=100")
+        fleet.run("multi", "in=hk.come", "out=-", "report=hk.multi", "streams=streams")
+        fleet.run("table", "in=hk.rec", "out=hk.table", "report=-", fields, "bits=64")
+        words = ["table=hk.table", "report=hk.multi", "as=influx", "bits=64", "tag=spacecraft:SC-00000", *times]
+        wanted = subprocess.run([sys.executable, "-m", "pocket", "numbers", *words], cwd=fleet.folder, capture_output=True, check=True).stdout.decode()
+        self.assertGreater(wanted.count("\n"), 30)
+        self.assertEqual(ran("feed.py", self.engine.place, fleet.at("fleet.json"), "SC-00000=" + fleet.at("hk.come"), "end"), (0, "", ""))
+        self.assertEqual(ran("work.py", self.engine.place), (0, "", ""))
+        self.assertEqual(ran("read.py", self.engine.place, self.folder, *times), (0, wanted, ""))
+
+    def test_refused(self):
+        """What is refused, each in a line: the words, and what the line says."""
+        packets, fleet, place = self.fleet.stores["SC-00000"], self.fleet, self.engine.place
+        wrong, streams = fleet.at("wrong"), fleet.at("fleet.json")
+        fleet.grow(1, 1, self.names[:1])
+        at = len(next(packets_of(packets)))
+        fleet.put("other", packets[:at] + bytes.fromhex("2064C000000011") + packets[at:])
+        fleet.put("wrong", json.dumps({"SC-00000": {"100": 65}, "SC-00001": {"100": "64"}, "SC-00002": {"2047": 1}, "SC-00003": {"1": 49153}, "SC-00004": [],
+                                      "../a": {}}))
+        fleet.put("cut", '{"SC-00000":\n')
+        fleet.put("hk.come", sample("hk.store"))
+        self.assertEqual(ran("feed.py", place, streams, f"SC-00000={fleet.at('hk.come')}")[0], 0)
+        rows = [("feed.py", [place, fleet.at("cut")], "Expecting value: line 2 column 1"), ("feed.py", [place, "nothing"], "nothing"),
+                ("feed.py", [place, wrong, f"SC-00000={fleet.at('SC-00000.come')}"], "its streams are others than before"),
+                *(("feed.py", [place, wrong, f"{name}={fleet.at('hk.come')}"], f"{name}={fleet.at('hk.come')}: {text}") for name, text in
+                  [("SC-00001", "'str' object"), ("SC-00002", "an APID is not"), ("SC-00003", "a vector has 1 to 49152"), ("SC-00004", "'list' object"),
+                   ("SC-00005", f"{wrong} has no streams of it"), ("../a", "a spacecraft is named as a file is")]),
+                ("feed.py", [place, streams, "SC-00000=" + fleet.at("other")], f"the packet at byte {at} is of another version"),
+                ("feed.py", [place, streams, "SC-00001=nothing"], "No such file or directory: 'nothing'"),
+                ("feed.py", ["localhost", streams], "invalid literal"), ("work.py", ["localhost:1"], "Connection refused"),
+                ("work.py", [place, "soon"], "could not convert"), ("read.py", [place, self.folder, "apid=1"], "fields="),
+                ("read.py", [place, self.folder, "fields=x", "apid=1", "step=1"], "start=")]
+        for name, words, text in rows:
+            with self.subTest(name, words=words[1:]):
+                status, out, told = ran(name, *words)
+                self.assertEqual((status, out, told.count("\n")), (1, "", 1), told)
+                self.assertIn(text, told)
+
+    def test_whole(self):
+        """Feeds, judges and reads all, and kills in each round: what is read back is that of the program, and all is counted."""
+        fleet, engine = self.fleet, self.engine
+        told = self.enterContext(open(fleet.at("told"), "a+b"))
+        workers = Keeper([lambda: begun("work.py", engine.place, str(LEASE), stderr=told)] * WORKERS)
+        self.addCleanup(workers.end)
+        reader = Keeper([lambda: begun("read.py", engine.place, self.folder, stderr=told)])
+        self.addCleanup(reader.end)
+        begun_anew = 0
+        for part in range(1, ROUNDS + 1):
+            fleet.grow(part, ROUNDS)
+            feeders = Keeper([lambda some=fleet.names[one::4]: fleet.fed(engine, some, told) for one in range(4)])
+            self.addCleanup(feeders.end)
+            upset(fleet.draw, engine, workers, reader, feeders)
+            until(lambda: (workers.are_done(), reader.are_done(), feeders.are_done())[2])
+            begun_anew += feeders.restarts
+        self.assertEqual(ran("feed.py", engine.place, fleet.at("fleet.json"), "end")[0], 0)
+        until(lambda: (workers.are_done(), reader.are_done()) == (True, True))
+        print(f"fleet: begun anew: {workers.restarts} workers, {reader.restarts} readers, {begun_anew} feeders", flush=True)
+        with self.subTest("what is read back is what the program restores of each spacecraft"):
+            self.assertEqual(fleet.differing(self.folder)[:5], [])
+        with self.subTest("each packet is counted once"):
+            rows, packets = ran("read.py", engine.place)[1].splitlines(), sum(len(list(packets_of(store))) for store in fleet.stores.values())
+            self.assertEqual((len(rows), rows[-1]), (len(fleet.names) + 2, f"all,{packets},{packets},0"))
+        with self.subTest("nothing that ended told a traceback"):
+            told.seek(0)
+            self.assertNotIn("Traceback", told.read().decode())

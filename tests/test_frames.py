@@ -12,34 +12,16 @@ import tempfile
 from unittest import mock
 
 from library import LibraryTest, run
+from packets import frame_of, laid, packet
 from pocket import frames
 from pocket.tool import ToolError
 
-ROUNDS = 150
-
-
-def control_of(frame):
-    """The error control by its polynomial, bit by bit."""
-    rest = 0xFFFF
-    for byte in frame:
-        for place in range(7, -1, -1):
-            rest = (rest << 1 & 0xFFFF) ^ (0x1021 if rest >> 15 ^ byte >> place & 1 else 0)
-    return rest
-
-
-def frame_of(channel, count, first, data, control, second=b"", operational=b"", craft=0x155):
-    """A frame by its fields."""
-    identifier = craft << 4 | channel << 1 | bool(operational)
-    status = bool(second) << 15 | 3 << 11 | first
-    head = identifier.to_bytes(2, "big") + bytes([count * 3 % 256, count % 256]) + status.to_bytes(2, "big")
-    frame = head + (bytes([len(second) - 1]) + second[1:] if second else b"") + data + operational
-    return frame + (control_of(frame).to_bytes(2, "big") if control else b"")
+ROUNDS, PACKET = 150, bytes.fromhex("0064C000000285B8D6")
 
 
 def packet_of(draw, number, apid=None):
     data = draw.randbytes(draw.choice([1, 2, 5, 30, 200]))
-    apid = draw.choice([100, 101, 102]) if apid is None else apid
-    return b"".join(part.to_bytes(2, "big") for part in (apid, 0xC000 | number % 16384, len(data) - 1)) + data
+    return packet(draw.choice([100, 101, 102]) if apid is None else apid, number, data)
 
 
 class Pass:
@@ -51,24 +33,12 @@ class Pass:
         self.room = draw.choice([8, 13, 60, 300])
         self.length = 6 + len(second) + self.room + len(operational) + 2 * self.control
         self.packets = [packet_of(draw, number, 2047 if draw.random() < 0.1 else None) for number in range(draw.randrange(1, 40))]
-        stream, begins, self.lies = b"", [], []
-        for packet in self.packets:
-            begins.append(len(stream))
-            stream += packet
-            self.lies.append(range(begins[-1] // self.room, (len(stream) - 1) // self.room + 1))
-        rest = -len(stream) % self.room
-        if rest:
-            rest += self.room if rest < 7 else 0
-            begins.append(len(stream))
-            stream += b"\x07\xff\xc0\x00" + (rest - 7).to_bytes(2, "big") + bytes(rest - 6)
-        self.frames = []
-        for number, at in enumerate(range(0, len(stream), self.room)):
-            first = next((begin - at for begin in begins if at <= begin < at + self.room), 0x7FF)
-            self.frames.append(frame_of(self.channel, number + 250, first, stream[at:at + self.room], self.control, second, operational))
+        fields, self.lies = laid(self.packets, self.room)
+        self.frames = [frame_of(self.channel, number + 250, first, data, self.control, second, operational) for number, (first, data) in enumerate(fields)]
 
     def store(self, lost):
         """What comes out if these frames are lost."""
-        return b"".join(packet for packet, lies in zip(self.packets, self.lies) if packet[:2] != b"\x07\xff" and not lost & set(lies))
+        return b"".join(whole for whole, lies in zip(self.packets, self.lies) if whole[:2] != b"\x07\xff" and not lost & set(lies))
 
 
 def taken(data, **words):
@@ -176,7 +146,7 @@ class Damage:
 
     def wanted(self):
         """The packets that are neither lost nor cut."""
-        return b"".join(packet for packet, lies in zip(self.one.packets, self.one.lies) if packet[:2] != b"\x07\xff" and not self.lost & set(lies) and not self.cut & set(lies[1:]))
+        return b"".join(whole for whole, lies in zip(self.one.packets, self.one.lies) if whole[:2] != b"\x07\xff" and not self.lost & set(lies) and not self.cut & set(lies[1:]))
 
 
 def turned(frame, at, bits):
@@ -213,42 +183,40 @@ class Frames(LibraryTest):
 
     def test_worked(self):
         """Worked frames by hand."""
-        packet = bytes.fromhex("0064C000000285B8D6")
-        one = frame_of(2, 7, 0, packet, False)
+        one = frame_of(2, 7, 0, PACKET)
         sums = ["1 frames were read, 0 of them bad, 0 of other spacecraft, 1 of virtual channel 2 of spacecraft 341",
                 "virtual channel 2: 0 frames missing, 0 repeated, 0 idle; 1 packets, and 0 that were cut"]
         found, told, _, status = taken(one, length=15)
-        self.assertEqual((one.hex(), found, told, status), ("15541507" + "1800" + packet.hex(), packet, sums, 0))
-        halves = [frame_of(2, 7, 0, packet[:5], False), frame_of(2, 8, 4, packet[5:] + b"\x07", False)]
-        self.assertEqual(taken(b"".join(halves), length=11)[0], packet)
-        self.assertIn("doesn't end the one before", taken(halves[0] + frame_of(2, 8, 3, packet[5:] + b"\x07", False), length=11)[1][0])
-        self.assertIn("idle data alone", taken(halves[0] + frame_of(2, 8, 0x7FE, bytes(5), False), length=11)[1][0])
+        self.assertEqual((one.hex(), found, told, status), ("15541507" + "1800" + PACKET.hex(), PACKET, sums, 0))
+        halves = [frame_of(2, 7, 0, PACKET[:5]), frame_of(2, 8, 4, PACKET[5:] + b"\x07")]
+        self.assertEqual(taken(b"".join(halves), length=11)[0], PACKET)
+        self.assertIn("doesn't end the one before", taken(halves[0] + frame_of(2, 8, 3, PACKET[5:] + b"\x07"), length=11)[1][0])
+        self.assertIn("idle data alone", taken(halves[0] + frame_of(2, 8, 0x7FE, bytes(5)), length=11)[1][0])
         self.assertEqual(taken(one + one[:3], length=15)[1][0], "the frame at byte 15 is cut: it is left out")
         self.assertEqual(taken(halves[0], length=11)[1][0], "the frames end, which cuts a packet of which 5 bytes came: it is left out")
-        found, told, _, status = taken(one + one + frame_of(2, 8, 0, packet, False), length=15)
-        self.assertEqual((found, told[1].split(";")[0], status), (packet * 2, "virtual channel 2: 0 frames missing, 1 repeated, 0 idle", 0))
-        found, told, *_ = taken(halves[0] + turned(halves[0], 10, 1) + halves[1] + frame_of(2, 9, 0, packet[:5], False), length=11)
+        found, told, _, status = taken(one + one + frame_of(2, 8, 0, PACKET), length=15)
+        self.assertEqual((found, told[1].split(";")[0], status), (PACKET * 2, "virtual channel 2: 0 frames missing, 1 repeated, 0 idle", 0))
+        found, told, *_ = taken(halves[0] + turned(halves[0], 10, 1) + halves[1] + frame_of(2, 9, 0, PACKET[:5]), length=11)
         self.assertEqual((found, told[0]), (b"", "the frame at byte 11 has the number of the one before and other bytes: it counts as missing, which cuts a packet of which 5 bytes came: it is left out"))
-        checked = [frame_of(2, 7, 0, packet, True), frame_of(2, 7, 0, packet[:-1] + b"\xd7", True)]
+        checked = [frame_of(2, 7, 0, PACKET, True), frame_of(2, 7, 0, PACKET[:-1] + b"\xd7", True)]
         self.assertEqual(taken(b"".join(checked), length=17, control=1)[1][0], "255 frames are missing before the frame at byte 17")
         for frame, wanted in [(b"\x55" + one[1:], "is of another version"), (one[:4] + b"\x58" + one[5:], "carries no packets, by its synchronization flag"),
                               (one[:4] + b"\x18\x09" + one[6:], "points past its data for its first packet: length= may not be its length")]:
-            found, told, *_ = taken(one + frame + frame_of(2, 9, 0, packet, False), length=15)
-            self.assertEqual((found, told[:2]), (packet * 2, [f"the frame at byte 15 {wanted}: it counts as missing", "1 frames are missing before the frame at byte 30"]))
-        empty = frame_of(2, 8, 0, b"", False, operational=b"clcw" + bytes(5))
-        self.assertTrue("has no room for data" in taken(one + empty[:6] + b"\xff" * 9 + one, length=15)[1][0] or taken(frame_of(2, 7, 0, b"", False, operational=b"clcw"), length=10)[3] == 4)
+            found, told, *_ = taken(one + frame + frame_of(2, 9, 0, PACKET), length=15)
+            self.assertEqual((found, told[:2]), (PACKET * 2, [f"the frame at byte 15 {wanted}: it counts as missing", "1 frames are missing before the frame at byte 30"]))
+        empty = frame_of(2, 8, 0, b"", operational=b"clcw" + bytes(5))
+        self.assertTrue("has no room for data" in taken(one + empty[:6] + b"\xff" * 9 + one, length=15)[1][0] or taken(frame_of(2, 7, 0, b"", operational=b"clcw"), length=10)[3] == 4)
 
     def test_others(self):
         """Frames of other channels and spacecraft in between."""
-        packet = bytes.fromhex("0064C000000285B8D6")
-        one, last = frame_of(2, 7, 0, packet, False), frame_of(2, 8, 0, packet, False)
-        mixed = one + frame_of(3, 200, 0, packet, False) + last
+        one, last = frame_of(2, 7, 0, PACKET), frame_of(2, 8, 0, PACKET)
+        mixed = one + frame_of(3, 200, 0, PACKET) + last
         found, told, _, status = taken(mixed, length=15)
-        self.assertEqual((found, told[2], status), (packet * 2, "another virtual channel has packets, which are not taken: say vcid=", 3))
-        self.assertEqual((taken(mixed, length=15, vcid=2)[3], taken(mixed, length=15, vcid=3)[0]), (0, packet))
-        crafts = one + frame_of(2, 99, 0, packet, False, craft=7) + last
+        self.assertEqual((found, told[2], status), (PACKET * 2, "another virtual channel has packets, which are not taken: say vcid=", 3))
+        self.assertEqual((taken(mixed, length=15, vcid=2)[3], taken(mixed, length=15, vcid=3)[0]), (0, PACKET))
+        crafts = one + frame_of(2, 99, 0, PACKET, craft=7) + last
         found, told, *_ = taken(crafts, length=15)
-        self.assertEqual((found, taken(crafts, length=15, scid=7)[0]), (packet * 2, packet))
+        self.assertEqual((found, taken(crafts, length=15, scid=7)[0]), (PACKET * 2, PACKET))
         self.assertIn("1 of other spacecraft", told[0])
 
     def test_wrong_lengths(self):
@@ -268,7 +236,7 @@ class Frames(LibraryTest):
         with mock.patch.object(frames, "LINES", 500):
             self.assertEqual(taken(bytes(15 * 3) + b"\xff" * 15 * 1000, length=15)[3], 4)
         self.assertEqual(taken(b"", length=15)[1], ["0 frames were read, 0 of them bad, 0 of other spacecraft, and 0 were taken: length=, sync=, control=, scid= or vcid= may be wrong"])
-        self.assertEqual(taken(frame_of(2, 7, 0, bytes(9), False), length=15, vcid=3)[3], 4)
+        self.assertEqual(taken(frame_of(2, 7, 0, bytes(9)), length=15, vcid=3)[3], 4)
 
     def test_refused(self):
         for words, wanted in [([], "length= is missing"), (["length=7"], "length=7: length= takes a number from 8 to 2048"), (["length=8", "length=9"], "length= is given twice"),

@@ -2,20 +2,21 @@
 and what a Receiver finds, contents too, is what `show` lists; every other history is sent and received after another one and a reset. At a
 desk in memory the two commands write the same. Each history is that of its seed."""
 
+import functools
 import os
 import pathlib
 import random
-import subprocess
 import tempfile
 from concurrent.futures import ThreadPoolExecutor
 
-from library import LibraryTest
+import library
 from pocket import Kind, Receiver, Sender, SpacePacket, packed, run
 from pocket.__main__ import lines
 from program import PROGRAM
 
-HISTORIES = 1000
-APID = 100
+HISTORIES, APID = 1000, 100
+# What the program writes on standard output.
+ran = functools.partial(library.run, PROGRAM)
 
 
 def history(draw):
@@ -67,11 +68,6 @@ def shown(listing):
             yield line
 
 
-def ran(*words):
-    """What the program writes on standard output."""
-    return subprocess.run([PROGRAM, *words], check=True, capture_output=True).stdout
-
-
 def differs(seed, folder):
     """What differs in the history of a seed, or None."""
     draw = random.Random(seed)
@@ -113,7 +109,7 @@ def differs(seed, folder):
     return None if masks == listed else "the masks that became known"
 
 
-class Histories(LibraryTest):
+class Histories(library.LibraryTest):
     def test_histories(self):
         folder = self.enterContext(tempfile.TemporaryDirectory(prefix="pocket-histories-"))
         with ThreadPoolExecutor(os.cpu_count()) as pool:

@@ -8,11 +8,9 @@ import sys
 
 from library import STRICT, LibraryTest, need, run
 from program import PROGRAM, SAMPLES, TOP, text_of
-from rows import sample
+from rows import PLAYED, sample
 
 COMPILERS = [("gcc", ["-std=c99"]), ("gcc", ["-std=c17"]), ("clang", ["-std=c99"]), ("g++", ["-x", "c++"]), ("clang++", ["-x", "c++"])]
-# A stream of four packets of 8 bits, by hand from docs/FORMATS.md; packet 2 is lost.
-PLAYED = bytes.fromhex("0064C000000385B8D600 0064C0010003424B8D62 0064C0030002C085C0")
 SHOWN = b"0 written b0\n1 written b1\n2-2 lost\n3 written b3\nend 3 3 0\n"
 SCHEDULE = "20,4294967295,20,p\n30,30,1,fr\n"
 # Memory is refused by these.
@@ -45,9 +43,8 @@ class Installed(LibraryTest):
         env = {"PATH": os.environ["PATH"], "PYTHONPATH": root + folder, "LD_LIBRARY_PATH": root + "/usr/local/lib", "PYTHONDONTWRITEBYTECODE": "1"}
         self.assertIn(folder, run(PYTHON, "-E", "-c", "import sys; print('\\n'.join(sys.path))").decode().split("\n"))
         code = "import pocket; print(pocket.__version__, pocket.__file__, pocket.Sender(8).send(b'\\xb0', 1).data.hex())"
-        found = subprocess.run([PYTHON, "-c", code], env=env, cwd="/", capture_output=True, text=True)
         version = re.search(r'POCKET_VERSION "(.*)"', HEADER)[1]
-        self.assertEqual(found.stdout, f"{version} {root}{folder}/pocket/__init__.py 85b8d600\n", found.stderr[-300:])
+        self.assertEqual(run(PYTHON, "-c", code, env=env, cwd="/").decode(), f"{version} {root}{folder}/pocket/__init__.py 85b8d600\n")
 
     def test_pip(self):
         """`pip install .` brings the library along: into a folder of its own, by Debian's packages, without a registry."""
@@ -56,11 +53,11 @@ class Installed(LibraryTest):
                 self.skipTest(f"python3-{module} is not there")
         copy = self.room.at("sources")
         shutil.copytree(TOP, copy, ignore=shutil.ignore_patterns(".git", "out", "crates", "page", "build", "docs"))
-        words = [PYTHON, "-m", "pip", "install", "-q", "--no-build-isolation", "--no-deps", "--no-index", "--disable-pip-version-check", "--root-user-action=ignore", "--target", self.room.at("pip"), "."]
-        subprocess.run(words, cwd=copy, env=dict(os.environ, POCKET_LIBRARY=os.path.realpath(self.room.at("libpocket.so")), PYTHONWARNINGS="ignore"), check=True, capture_output=True, timeout=300)
+        words = "-q --no-build-isolation --no-deps --no-index --disable-pip-version-check --root-user-action=ignore --target".split()
+        env = dict(os.environ, POCKET_LIBRARY=os.path.realpath(self.room.at("libpocket.so")), PYTHONWARNINGS="ignore")
+        run(PYTHON, "-m", "pip", "install", *words, self.room.at("pip"), ".", cwd=copy, env=env)
         env = {"PATH": os.environ["PATH"], "PYTHONPATH": self.room.at("pip"), "PYTHONDONTWRITEBYTECODE": "1"}
-        found = subprocess.run([PYTHON, "-m", "pocket", "bits=8", "apid=100"], env=env, cwd="/", input=PLAYED, capture_output=True)
-        self.assertEqual(found.stdout, SHOWN, found.stderr[-300:])
+        self.assertEqual(run(PYTHON, "-m", "pocket", "bits=8", "apid=100", env=env, cwd="/", given=PLAYED), SHOWN)
 
     def test_exports(self):
         """The shared library exports the calls of the header alone, in its version, by a name that tells it."""

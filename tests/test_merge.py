@@ -11,17 +11,12 @@ import sys
 import tempfile
 
 from library import LibraryTest
+from packets import PERIOD, packet
 from pocket import merge
 from pocket.tool import ToolError
 from program import Folder
 
-PERIOD, HALF = 16384, 8192
-CASES = 300
-
-
-def packet(apid, number, data):
-    """The Space Packet of a number."""
-    return b"".join(part.to_bytes(2, "big") for part in (apid, 0xC000 | number % PERIOD, len(data) - 1)) + data
+HALF, CASES = PERIOD // 2, 300
 
 
 def data_of(kind, number):

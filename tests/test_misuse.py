@@ -3,7 +3,7 @@ that two threads use, one that is opened twice, and words of other types."""
 
 import subprocess
 import sys
-import threading
+from concurrent.futures import ThreadPoolExecutor
 
 from library import LibraryTest
 from pocket import Closed, Counts, Desk, Kind, PocketError, Receiver, Sender
@@ -51,18 +51,9 @@ class Misuse(LibraryTest):
 
     def twice(self, call):
         """Makes a call again and again in two threads, of which none is refused."""
-        def work():
-            try:
-                for _ in range(ARRIVALS):
-                    call()
-            except PocketError as fault:
-                faults.append(fault)
-        faults, both = [], [threading.Thread(target=work) for _ in range(2)]
-        for one in both:
-            one.start()
-        for one in both:
-            one.join()
-        self.assertEqual(faults, [])
+        with ThreadPoolExecutor(2) as both:
+            for work in [both.submit(lambda: [call() for _ in range(ARRIVALS)]) for _ in range(2)]:
+                work.result()
 
     def test_threads(self):
         """Arrivals, inputs and commands of two threads at one handle are all counted."""

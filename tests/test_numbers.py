@@ -1,39 +1,18 @@
 """`python3 -m pocket numbers` and `pack` over tables that table.py works out: packets are packed as they were, numbers and times are those of
 what was lost and when, events those of a walk value by value; and each refusal."""
 
-import contextlib
 import datetime
-import io
-import os
+import itertools
+import math
 import random
 import re
 import tempfile
 
-from library import LibraryTest
+from library import LibraryTest, ToolFolder
 from pocket import numbers, pack
-from pocket.tool import ToolError
-from program import Folder
 from table import table
 
 ROUNDS = 60
-
-
-class Files(Folder):
-    """A folder, and the tools over files in it."""
-
-    def run(self, tool, *words):
-        """What a tool writes, or the text of its refusal. What it tells is kept."""
-        named = [f"{key}={self.at(value)}" if key in ("table", "report", "fields", "in") else f"{key}={value}"
-                 for key, _, value in (word.partition("=") for word in words)]
-        told = io.StringIO()
-        try:
-            with contextlib.redirect_stderr(told):
-                tool.run([*named, "out=" + self.at("out")])
-            return self.get("out")
-        except ToolError as error:
-            return str(error).replace(self.folder + os.sep, "")
-        finally:
-            self.told = told.getvalue().replace(self.folder + os.sep, "")
 
 
 def fields_of(draw, bits):
@@ -59,26 +38,17 @@ def covered(rows, bits):
 
 
 def events(names, limits, packets):
-    """The stretches out of limits, value by value: of each the field, the limit, the first and the last packet, how many, and the worst."""
+    """The stretches out of limits, value by value: of each the field, the limit, its first packet and the one after it, how many, and the worst."""
     found = []
     for place, name in enumerate(names):
-        if name not in limits:
-            continue
-        low, high = limits[name]
-        before = None
-        for number, values in packets:
-            side = "low" if values[place] < low else "high" if values[place] > high else None
-            if side and side == before:
-                found[-1][4] += 1
-                if (values[place] < found[-1][5]) if side == "low" else (values[place] > found[-1][5]):
-                    found[-1][5:7] = values[place], number
-            elif side:
-                found.append([name, side, number, None, 1, values[place], number])
-            if before and side != before:
-                ended = [one for one in found if one[0] == name and one[3] is None and one[2] != number]
-                ended[-1][3] = number
-            before = side
-    return sorted(map(tuple, found), key=str)
+        low, high = limits.get(name, (-math.inf, math.inf))
+        values = [(number, own[place]) for number, own in packets]
+        stretches = [(side, list(some)) for side, some in itertools.groupby(values, lambda one: (one[1] > high) - (one[1] < low))]
+        for (side, some), (_, after) in itertools.zip_longest(stretches, stretches[1:], fillvalue=(0, [(None, 0)])):
+            if side:
+                number, worst = (max if side > 0 else min)(some, key=lambda one: one[1])
+                found.append((name, "high" if side > 0 else "low", some[0][0], after[0][0], len(some), worst, number))
+    return sorted(found, key=str)
 
 
 def point_of(line):
@@ -146,7 +116,7 @@ REFUSED = [
 
 class Numbers(LibraryTest):
     def setUp(self):
-        self.files = Files(self.enterContext(tempfile.TemporaryDirectory(prefix="pocket-numbers-")))
+        self.files = ToolFolder(self.enterContext(tempfile.TemporaryDirectory(prefix="pocket-numbers-")))
         for name, text in [*TEXTS.items(), *WRONG]:
             self.files.put(name, text)
 

@@ -19,15 +19,14 @@ import sys
 import tempfile
 import unittest
 
-from driver import CASES, HEAP, compile_driver, differing, long_data, ran, random_cases, states, worked, wrong_lines
-from library import PROVED, need, run
+from driver import HEAP, all_tests, compile_driver, differing, long_data, ran, states
+from library import PROVED, STRICT, need, run
 from program import PROGRAM, TOP, Folder, ProgramTest, text_of
 from rows import DATA, TEXTS, VERBS, WORDS
 from test_files import FILES
 
 DIST = f"{TOP}/dist"
 MADE = ["pocket.c", "pocket.h", "pocket-program.c", "pocket.html"]
-STRICT = "-std=c99 -Wall -Wextra -pedantic -Werror".split()
 DRIVER = f"{TOP}/tests/c/driver.c"
 BOARD, LEON3, RISCV32 = (f"{TOP}/library/examples/{name}" for name in ("cortex-m", "leon3", "riscv32"))
 # A machine without an operating system: QEMU's loader puts what the driver reads into its memory (library/examples/leon3/loaded.c).
@@ -88,9 +87,8 @@ class Room(Folder):
         self.made = self.at("dist") if all(map(shutil.which, ("wasm2c", "wasm-opt", "esbuild"))) else DIST
         if self.made != DIST:
             run("make", "-s", "dist", f"DIST={self.made}", timeout=1800)
-        draw, _, lines = random_cases()
-        self.tests = {"the worked inputs": worked(), "wrong arguments": wrong_lines(), f"{CASES} random cases": (lines, None),
-                      "more data than a packet has": (long_data(draw), None)}
+        self.tests, _, draw = all_tests()
+        self.tests["more data than a packet has"] = long_data(draw), None
         native = self.at("native")
         compile_driver("gcc", [PROVED, HEAP], native)
         self.wanted = {name: ran([native], lines) for name, (lines, _) in self.tests.items()}
@@ -146,7 +144,7 @@ def same_as_committed(room):
 
 def symbols(compiler, flags, made, to):
     """The names that an object of the file asks for, and those of its calls."""
-    run(*compiler, *STRICT, *flags, "-c", f"{made}/pocket.c", "-o", to)
+    run(*compiler, "-std=c99", *STRICT, *flags, "-c", f"{made}/pocket.c", "-o", to)
     told = [line.split() for line in run("nm", to).decode().splitlines()]
     return {words[1] for words in told if words[0] == "U"} - {"_GLOBAL_OFFSET_TABLE_"}, {words[2] for words in told if words[1] == "T"}
 
@@ -166,7 +164,7 @@ def fails(room, source, flags, *words, compiler="gcc", before=()):
     """How a program of tests/c fails, which has to pass some and to fail none, or None."""
     need(compiler, *before[:1])
     to = room.at("-".join([source, compiler, *words[:1]]))
-    run(compiler, *STRICT, *flags, "-I", room.made, "-o", to, f"{TOP}/tests/c/{source}.c")
+    run(compiler, "-std=c99", *STRICT, *flags, "-I", room.made, "-o", to, f"{TOP}/tests/c/{source}.c")
     found = run(*before, to, *words).decode().splitlines()[-1]
     return None if found.endswith(" passed, 0 failed") and not found.startswith("0 ") else found
 
@@ -219,21 +217,19 @@ def board(room, example, compiler, machine):
 
 
 def from_python(room):
-    """How the states of test_states.py fail, from Python over a shared library that is made of the file, or None."""
+    """Tries test_states.py, from Python over a shared library that is made of the file."""
     to = room.at("libpocket.so")
     run("gcc", "-std=c99", "-O1", "-fPIC", "-shared", "-o", to, f"{room.made}/pocket.c")
-    found = subprocess.run([sys.executable, "-m", "unittest", "test_states"], cwd=f"{TOP}/tests", capture_output=True, env=dict(os.environ, POCKET_LIBRARY=to), timeout=100)
-    return found.stderr[-400:] if found.returncode else None
+    run(sys.executable, "-m", "unittest", "test_states", cwd=f"{TOP}/tests", env=dict(os.environ, POCKET_LIBRARY=to), timeout=100)
 
 
 def fuzzed_states(room):
-    """How bytes that libFuzzer makes of how the file's branches go do harm as a state, or None."""
+    """Tries bytes that libFuzzer makes of how the file's branches go, as a state."""
     need("clang")
     to = room.at("fuzzed-states")
     run("clang", "-O1", "-g", "-fsanitize=fuzzer,address,undefined", "-fno-sanitize-recover=all", "-DPOCKET_FUZZED", "-I", room.made, "-o", to,
         f"{TOP}/tests/c/states.c", f"{room.made}/pocket.c")
     run(to, "-runs=60000", "-seed=1", "-max_len=600", cwd=room.folder)
-    return None
 
 
 def tries(room):
@@ -263,14 +259,6 @@ def tries(room):
     yield "any bytes as a state, by libFuzzer", lambda: fuzzed_states(room)
 
 
-def tried(attempt):
-    """What a try gives: what is wrong, or None, or what it raised."""
-    try:
-        return attempt()
-    except Exception as error:
-        return error
-
-
 @functools.cache
 def made():
     """The folder of all tests of the file."""
@@ -285,14 +273,11 @@ class OneFile(unittest.TestCase):
         room = made()
         with self.subTest("the files are made"):
             need(*["wasm2c", "wasm-opt", "esbuild"] * (room.made == DIST))
-        names, attempts = zip(*tries(room))
         with concurrent.futures.ThreadPoolExecutor(os.cpu_count()) as at_once:
-            found = zip(names, at_once.map(tried, attempts))
+            found = [(name, at_once.submit(attempt)) for name, attempt in tries(room)]
         for name, fault in found:
             with self.subTest(name):
-                if isinstance(fault, Exception):
-                    raise fault
-                self.assertIsNone(fault)
+                self.assertIsNone(fault.result())
 
 
 def leaves_more(row):

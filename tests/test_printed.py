@@ -11,7 +11,7 @@ import subprocess
 import tempfile
 import unittest
 
-from program import PROGRAM, SAMPLES, TOP
+from program import PROGRAM, SAMPLES, TOP, text_of
 
 PAGES = ["README.md", "docs/OPERATING.md"]
 LIMIT = 120
@@ -45,8 +45,8 @@ def said(command, folder, path, first):
 
 def ran(page):
     """The commands of a page, what each says and what it has to say, one after the other."""
-    with open(os.path.join(TOP, page), encoding="utf-8") as file, tempfile.TemporaryDirectory(prefix="pocket-printed-") as room:
-        text, folder, path = file.read(), os.path.join(room, "data"), os.path.join(room, "bin")
+    with tempfile.TemporaryDirectory(prefix="pocket-printed-") as room:
+        text, folder, path = text_of(page), os.path.join(room, "data"), os.path.join(room, "bin")
         shutil.copytree(SAMPLES, folder)
         os.mkdir(path)
         shutil.copy(PROGRAM, os.path.join(path, "pocket"))

@@ -10,8 +10,9 @@ import subprocess
 import tempfile
 import unittest
 
-from driver import CASES, HEAP, compile_driver, differing, lines_of, ran, random_cases, verb_lines, worked, wrong_lines
+from driver import HEAP, all_tests, compile_driver, differing, lines_of, ran, verb_lines
 from library import PROVED
+from packets import packet
 from program import PROGRAM, TOP, Folder
 
 TARGETS = {"aarch64-linux-gnu": "qemu-aarch64", "riscv64-linux-gnu": "qemu-riscv64"}
@@ -27,15 +28,14 @@ def by_program(case, printed, room):
     words = f"in=x out=y bits={bits} apid=100 robust={robust} plan=s" + (f" mask={mask.lower()}" if mask else "")
     subprocess.run([PROGRAM, "compress", *words.split()], cwd=room, check=True, timeout=60)
     sent = [bytes.fromhex(line.split()[5]) for line in printed if line.startswith("sent 0")]
-    packet = lambda t, data: bytes([0, 100, 0xC0 | t >> 8, t & 255]) + (len(data) - 1).to_bytes(2, "big") + data
-    if files.get("y") != b"".join(packet(t, data) for t, data in enumerate(sent)):
+    if files.get("y") != b"".join(packet(100, t, data) for t, data in enumerate(sent)):
         return "its store has other packets"
     arrived = b""
     for t, (_, fate, _) in enumerate(steps):
         data = bytearray(sent[t])
         if fate == 3:
             data[t * 7 % len(data)] ^= 1 << t % 8
-        arrived += packet(t, bytes(data)) * (1 if fate == 3 else fate)
+        arrived += packet(100, t, bytes(data)) * (1 if fate == 3 else fate)
     files.put("y", arrived)
     subprocess.run([PROGRAM, "restore", *f"in=y out=z report=r bits={bits} apid=100".split()], cwd=room, check=True, timeout=60)
     content = b"".join(bytes.fromhex(line.split(" content ")[1]) for line in printed if " content " in line)
@@ -50,8 +50,8 @@ class Processors(unittest.TestCase):
     @classmethod
     def setUpClass(cls):
         cls.room = cls.enterClassContext(tempfile.TemporaryDirectory(prefix="pocket-processors-"))
-        _, cls.cases, lines = random_cases()
-        cls.tests = {"the worked inputs": worked(), "wrong arguments": wrong_lines(), f"{CASES} random cases": (lines, None), "all nine verbs": verb_lines()}
+        cls.tests, cls.cases, _ = all_tests()
+        cls.tests["all nine verbs"] = verb_lines()
         cls.native = os.path.join(cls.room, "native")
         compile_driver("gcc", [PROVED, HEAP], cls.native, "-DPOCKET_DESK")
         cls.printed = {name: ran([cls.native], lines) for name, (lines, _) in cls.tests.items()}

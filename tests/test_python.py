@@ -6,10 +6,9 @@ import os
 from library import LibraryTest
 import pocket
 from pocket.errors import REFUSED
+from rows import PLAYED, RECORDING, REPORT, RESTORED, STORE
 
-INPUTS = bytes.fromhex("B0B1B1B3")
 PACKETS = [("85B8D600", 1), ("424B8D62", 1), ("44C0", 2), ("C085C0", 1)]
-STORE = bytes.fromhex("0064C000000385B8D6000064C0010003424B8D620064C002000144C00064C0030002C085C0")
 COMPRESS, RESTORE = "compress in=x out=s bits=8 apid=100 robust=1".split(), "restore in=s out=b report=r bits=8 apid=100".split()
 CLOSED = "it is closed"
 
@@ -57,12 +56,12 @@ class Python(LibraryTest):
         for number, (data, level) in enumerate(PACKETS):
             self.wrong_calls(sender, receiver)
             self.assertEqual((sender.sent, sender.bits, receiver.bits), (number, 8, 8))
-            sent = sender.send(INPUTS[number:number + 1], 1)
+            sent = sender.send(RECORDING[number:number + 1], 1)
             self.assertEqual((sent.data.hex().upper(), sent.level), (data, level))
             if number != 2:
                 lost = range(2, 3) if number == 3 else range(0)
                 found = receiver.receive(number, sent.data)
-                self.assertEqual((found.number, found.kind, list(found.lost), found.content), (number, pocket.Kind.WRITTEN, list(lost), INPUTS[number:number + 1]))
+                self.assertEqual((found.number, found.kind, list(found.lost), found.content), (number, pocket.Kind.WRITTEN, list(lost), RECORDING[number:number + 1]))
         self.assertEqual(receiver.receive(3, b"").kind, pocket.Kind.REPEAT)
         self.assertEqual(receiver.receive(4, b"\x43\x00"), pocket.Arrival(4, pocket.Kind.WRONG, 8, range(0), False, None))
         self.assertEqual(receiver.counts(), pocket.Counts(5, 3, 1, 2))
@@ -78,14 +77,14 @@ class Python(LibraryTest):
 
     def test_commands(self):
         """The commands at a desk: the store of the inputs, and what is restored if packet 2 is lost."""
-        self.assertEqual(pocket.run(*COMPRESS, inputs={"x": INPUTS}), {"s": STORE})
-        self.assertEqual(pocket.run(*RESTORE, inputs={"s": STORE[:20] + STORE[28:]}), {"b": bytes.fromhex("B0B1B3"), "r": b"first,last,cause,value\n2,2,lost,0\nend,3,3,0\n"})
+        self.assertEqual(pocket.run(*COMPRESS, inputs={"x": RECORDING}), {"s": STORE})
+        self.assertEqual(pocket.run(*RESTORE, inputs={"s": PLAYED}), {"b": RESTORED, "r": REPORT})
 
     def test_desk(self):
         with pocket.Desk() as desk:
-            desk.put("x", INPUTS[:1])
+            desk.put("x", RECORDING[:1])
             desk.run(*COMPRESS)
-            self.assertEqual((desk.get("s"), desk.get("x"), desk.get("none")), (STORE[:10], INPUTS[:1], b""))
+            self.assertEqual((desk.get("s"), desk.get("x"), desk.get("none")), (STORE[:10], RECORDING[:1], b""))
             self.refuses(pocket.Refused, "word 3 is wrong", desk.run, *COMPRESS[:3], "bits=0", *COMPRESS[4:])
             self.refuses(pocket.Refused, "word 0 is wrong", desk.run)
             self.refuses(pocket.Refused, "word 0 is wrong", desk.run, *[""] * 1000)
@@ -101,11 +100,11 @@ class Python(LibraryTest):
                 desk.remove(name)
             self.refuses(pocket.NotKept, "no such name is kept", desk.remove, "none")
             self.refuses(pocket.NotText, "it is not UTF-8", desk.remove, "\udc80")
-            desk.put("x", INPUTS)
+            desk.put("x", RECORDING)
             desk.remove("x")
             self.assertEqual((desk.names(), desk.get("x"), desk.get("s")), (["s"], b"", STORE[:10]))
             self.refuses(pocket.Refused, "reading failed", desk.run, *COMPRESS)
-            desk.put("x", INPUTS)
+            desk.put("x", RECORDING)
             desk.put("s", STORE[:19])
             with self.assertRaisesRegex(pocket.Refused, "^store packet at byte 10 is cut$") as refusal:
                 desk.run(*RESTORE)

@@ -1,6 +1,7 @@
 """What is told on a terminal alone. How far a run is: when it is told and when it isn't, how often, and that the line is taken away.
 And the second line after a refusal."""
 
+import contextlib
 import os
 import pty
 import re
@@ -22,14 +23,12 @@ NOTHING_LISTED, NOTHING_RESTORED = b"end 0 0 0\n", b"first,last,cause,value\nend
 
 def feed(pipe, pieces, pause):
     """Writes so many pieces to a pipe, and closes it."""
-    try:
+    with contextlib.suppress(BrokenPipeError):
         for _ in range(pieces):
             pipe.write(bytes(PIECE))
             pipe.flush()
             time.sleep(pause)
         pipe.close()
-    except BrokenPipeError:
-        pass
 
 
 def told_on(master):

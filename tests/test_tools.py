@@ -28,10 +28,6 @@ class Tools(LibraryTest):
     def there(self):
         return sorted(name for name in os.listdir(self.room.folder) if name not in TEXTS)
 
-    def remove(self, *names):
-        for name in names:
-            os.unlink(self.room.at(name))
-
     def run_tool(self, words, given=b"", shell=None, flags=(), env=(), **how):
         """How a call ended, and what it wrote and told."""
         call = [sys.executable, *flags, "-m", "pocket", *words]
@@ -60,7 +56,7 @@ class Tools(LibraryTest):
         os.chmod(self.room.at("made"), 0o640)
         self.assertEqual(self.run_tool([*words, "out=./made"], given)[0], 0)
         self.assertEqual(os.stat(self.room.at("made")).st_mode & 0o777, 0o640)
-        self.remove("made")
+        os.unlink(self.room.at("made"))
         self.assertEqual((self.run_tool([*words, "out=/dev/null"], given)[:2], self.there()), ((0, b""), []))
         self.refuses([*words, "out=/dev/full"], f"pocket {tool}: writing failed: No space left on device", given=given)
         self.refuses(words, f"pocket {tool}: writing failed: No space left on device", given=given, shell="> /dev/full")
@@ -88,7 +84,7 @@ class Tools(LibraryTest):
         self.room.put("old", "old")
         self.room.put("bad", STORE[:-1])
         self.refuses(["merge", "x", "bad", "near=0", "out=old"], "bad: the packet at byte 20 is cut")
-        self.remove("old.part")
+        os.unlink(self.room.at("old.part"))
         os.symlink("old", self.room.at("old.part"))
         self.refuses(["merge", "x", "x", "near=0", "out=old"], "is no regular file")
         self.assertEqual(self.room.get("old"), b"old")

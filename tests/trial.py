@@ -1,6 +1,9 @@
 """The summary of a trial, worked out from docs/FORMATS.md and the texts of definitions alone. It shares no code with the program: vectors are
 whole numbers here, whose lowest bit is the last place, and of a packet only the length is computed."""
 
+import functools
+import operator
+
 HEADER = 6
 
 
@@ -13,23 +16,10 @@ def count_bits(a):
     return 3 + 2 * (a - 2).bit_length() - 6
 
 
-def ones(vector, f):
-    """The places of the ones, from the last place down."""
-    place = f - 1
-    while vector:
-        if vector & 1:
-            yield place
-        vector >>= 1
-        place -= 1
-
-
-def run_bits(vector, f):
-    """The bits of the run code of a vector."""
-    bits, before = 2, f
-    for place in ones(vector, f):
-        bits += count_bits(before - place)
-        before = place
-    return bits
+def run_bits(vector):
+    """The bits of the run code of a vector: the counts from each one to the next, from the last place down, and an end."""
+    zeros = f"{vector:b}"[::-1].split("1")[:-1]
+    return 2 + sum(count_bits(len(between) + 1) for between in zeros)
 
 
 def draws(seed):
@@ -52,52 +42,46 @@ def history(seed, packets, f):
     return inputs, copies
 
 
+def union(vectors):
+    """The ones of any of these."""
+    return functools.reduce(operator.or_, vectors, 0)
+
+
+def packet_bits(f, mask, recent, level, twice, send, whole):
+    """The bits of a packet, by its mask, what changed in it of late, its level, whether two new masks are recent, and what is sent."""
+    bits, wide = run_bits(recent) + 5, mask
+    if level > 0 and recent:
+        bits += 1
+        if recent & ~mask:
+            bits += recent.bit_count() + 1
+            wide |= recent if twice else 0
+    if send or whole:
+        bits += 1
+    if send:
+        bits += run_bits(mask ^ (mask << 1 & (1 << f) - 1))
+    return bits + (1 + count_bits(f) + f if whole else send + wide.bit_count())
+
+
 def trial(seed, packets, f, robust):
     inputs, copies = history(seed, packets, f)
     size = (f + 7) // 8
-    masks, changes, new = [], [], []
+    masks, changes, new = [0], [], []
     store = played = written = listed = 0
-    last = None
-    last_arrival = max(t for t in range(packets) if copies[t])
+    last, last_arrival = None, max(t for t in range(packets) if copies[t])
     for t in range(packets):
         forced = t <= robust
-        p = t >= 1 and t % 20 == 0 and not forced
-        send = forced or (t >= 1 and t % 50 == 0)
-        whole = forced or (t >= 1 and t % 100 == 0)
-        new.append(p)
+        send, whole = forced or t % 50 == 0, forced or t % 100 == 0
+        new.append(t % 20 == 0 and not forced)
         # The mask by its closed form: what moved since the second latest new mask. There is one for every 20th packet.
         marks = [s for s in range(t, max(0, t - 64), -1) if new[s]]
         since = marks[1] if len(marks) > 1 else 0
-        mask = 0
-        for i in range(since + 1, t + 1):
-            mask |= inputs[i] ^ inputs[i - 1]
-        masks.append(mask)
-        changes.append(mask ^ masks[t - 1] if t else 0)
-        recent = 0
-        for s in range(max(1, t - robust), t + 1):
-            recent |= changes[s]
+        masks.append(union(inputs[i] ^ inputs[i - 1] for i in range(since + 1, t + 1)))
+        changes.append(masks[-1] ^ masks[-2])
         level = robust
         while level < max(robust, min(15, t)) and changes[t - level - 1] == 0:
             level += 1
-        twice = sum(new[max(0, t - level) : t + 1]) >= 2
-        bits = run_bits(recent, f) + 4
-        wide = mask
-        if level > 0 and recent:
-            bits += 1
-            if recent & ~mask:
-                bits += recent.bit_count() + 1
-                if twice:
-                    wide |= recent
-        bits += 1
-        if send or whole:
-            bits += 1
-            if send:
-                bits += run_bits(mask ^ (mask << 1 & (1 << f) - 1), f)
-        if whole:
-            bits += 1 + count_bits(f) + f
-        else:
-            bits += (1 if send else 0) + wide.bit_count()
-        packet = HEADER + (bits + 7) // 8
+        twice = sum(new[max(0, t - level):]) >= 2
+        packet = HEADER + (packet_bits(f, masks[-1], union(changes[max(1, t - robust):]), level, twice, send, whole) + 7) // 8
         store += packet
         played += packet * copies[t]
         if copies[t] and ((send and whole) or (last is not None and t - 1 - last <= level)):

@@ -9,26 +9,22 @@ static void put(const char *text)
     board_write((const uint8_t *)text, strlen(text));
 }
 
-/* A number in decimal digits, by subtraction alone: a division of 64 bits is a call of the compiler's own. */
+/* A number in decimal digits, which double bit by bit: a division of 64 bits is a call of the compiler's own. */
 static void put_number(unsigned long long number)
 {
-    char digits[21], *at = digits;
-    unsigned long long power = 10000000000000000000u;
-    static const unsigned long long powers[] = { 1000000000000000000u, 100000000000000000u, 10000000000000000u, 1000000000000000u,
-        100000000000000u, 10000000000000u, 1000000000000u, 100000000000u, 10000000000u, 1000000000u, 100000000u, 10000000u, 1000000u, 100000u,
-        10000u, 1000u, 100u, 10u, 1u };
-    size_t next = 0;
-    for (;; power = powers[next++]) {
-        char digit = '0';
-        for (; number >= power; number -= power)
-            digit++;
-        if (digit != '0' || at != digits || power == 1)
-            *at++ = digit;
-        if (power == 1)
-            break;
-    }
-    *at = 0;
-    put(digits);
+    char digits[] = "00000000000000000000", *first = digits;
+    int bit, at, carry;
+    for (bit = 64; bit > 0 && number >> 63 == 0; bit--)
+        number <<= 1;
+    for (; bit > 0; bit--, number <<= 1)
+        for (at = 19, carry = (int)(number >> 63); at >= 0; at--) {
+            const int twice = 2 * (digits[at] - '0') + carry;
+            carry = twice > 9;
+            digits[at] = (char)('0' + twice - 10 * carry);
+        }
+    while (first[0] == '0' && first[1])
+        first++;
+    put(first);
 }
 
 /* The forms %s, %u, %d of a number that is not below 0, and %llu. */

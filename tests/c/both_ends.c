@@ -3,12 +3,9 @@
  * state that is saved and loaded is saved as the same bytes. Its word is how many streams there are. */
 #include "pocket.h"
 #include "check.h"
-#include <stdlib.h>
-#include <string.h>
 
 enum { MOST = 600, CALLS = 60, BYTES = POCKET_INPUT_BYTES(MOST), ROOM = POCKET_PACKET_BYTES(MOST), STATE = POCKET_SENDER_STATE_BYTES(MOST) };
 static const uint32_t bits_tried[] = { 1, 7, 8, 16, 32, 47, 56, 64, 65, 100, 200, 257, MOST };
-static uint64_t seed = 88172645463325252u;
 
 /* Both ends, the number of the next packet, and whether all packets arrived as they were sent since both began. */
 static struct {
@@ -20,16 +17,10 @@ static struct {
 
 #define check(held, what) check(held, what, link.bits)
 
-static uint32_t drawn(uint32_t below)
-{
-    seed ^= seed << 13, seed ^= seed >> 7, seed ^= seed << 17;
-    return (uint32_t)(seed >> 16) % below;
-}
-
-static void turn(uint8_t *bytes, size_t count, uint32_t times)
+static void turn(uint8_t *bytes, size_t count, uint64_t times)
 {
     for (; count > 0 && times > 0; times--)
-        bytes[drawn((uint32_t)count)] ^= (uint8_t)(drawn(2) ? 1u << drawn(8) : drawn(256));
+        bytes[drawn(count)] ^= (uint8_t)(drawn(2) ? 1u << drawn(8) : drawn(256));
 }
 
 static void move(void)
@@ -60,7 +51,7 @@ static void sends(void)
 {
     uint8_t data[ROOM], level;
     size_t length;
-    const uint32_t fate = drawn(12), flags = drawn(3) ? 0 : drawn(8);
+    const uint64_t fate = drawn(12), flags = drawn(3) ? 0 : drawn(8);
     move();
     check(pocket_send(&link.sender, link.input, POCKET_INPUT_BYTES(link.bits), flags & 1, flags & 2, flags & 4, (uint8_t)(drawn(4) ? 1 : drawn(8)), data, sizeof data,
                       &length, &level) == POCKET_DONE, "a send");
@@ -72,7 +63,7 @@ static void sends(void)
     if (fate == 1)
         data[length - 1] ^= (uint8_t)drawn(4);
     if (fate == 2)
-        length = drawn((uint32_t)length);
+        length = drawn(length);
     if (fate > 0)
         arrives(link.number - 1, data, length, fate > 2);
 }
@@ -94,7 +85,7 @@ static void kept(pocket_handle *one)
           pocket_save(one, again, sizeof again, &other) == POCKET_DONE && length == other && memcmp(state, again, length) == 0, "a state");
 }
 
-static void begins(uint32_t which)
+static void begins(uint64_t which)
 {
     if (which != 1)
         check(pocket_sender_reset(&link.sender, link.input, drawn(2) ? POCKET_INPUT_BYTES(link.bits) : 0) == POCKET_DONE, "a reset of a sender");
@@ -106,7 +97,7 @@ static void begins(uint32_t which)
 
 static void calls(void)
 {
-    const uint32_t kind = drawn(24);
+    const uint64_t kind = drawn(24);
     if (kind == 0)
         any_bytes();
     else if (kind == 1)
@@ -114,7 +105,7 @@ static void calls(void)
     else if (kind == 2)
         begins(drawn(3));
     else if (kind == 3)
-        link.number += drawn(40), link.in_step = false;
+        link.number += (uint32_t)drawn(40), link.in_step = false;
     else
         sends();
 }

@@ -1,6 +1,9 @@
-/* What each program of this folder counts, and its last line. */
+/* What the programs of this folder share: what each counts, its last line, and numbers by chance. */
 #include <stdbool.h>
+#include <stdint.h>
 #include <stdio.h>
+#include <stdlib.h>
+#include <string.h>
 
 static unsigned long passed, failed;
 
@@ -16,4 +19,12 @@ static int counted(void)
 {
     printf("%lu passed, %lu failed\n", passed, failed);
     return failed != 0;
+}
+
+/* A number below another, the same ones in each run. */
+static inline uint64_t drawn(uint64_t below)
+{
+    static uint64_t seed = 88172645463325252u;
+    seed ^= seed << 13, seed ^= seed >> 7, seed ^= seed << 17;
+    return seed % below;
 }

@@ -85,26 +85,20 @@ static void save(void) {
     printf("\n");
 }
 
-static void resume(const char *count, const char *of_sender, const char *of_receiver) {
-    sent = (unsigned)strtoul(count, NULL, 10);
+static void resume(unsigned count, const char *of_sender, const char *of_receiver) {
+    sent = count;
     size_t len = bytes_of(of_sender);
     printf("resumed %u", pocket_load(&sender, in, len));
     len = bytes_of(of_receiver);
     printf(" %u\n", pocket_load(&receiver, in, len));
 }
 
-static void open_both(const char *mask) {
+/* Opens or resets both ends, with a first mask. */
+static void begin_both(const char *verb, bool opens, const char *mask) {
     size_t len = bytes_of(mask);
     sent = 0;
-    printf("open %u", open_sender(len));
-    printf(" %u\n", open_receiver());
-}
-
-static void reset_both(const char *mask) {
-    size_t len = bytes_of(mask);
-    sent = 0;
-    printf("reset %u", pocket_sender_reset(&sender, in, len));
-    printf(" %u\n", pocket_receiver_reset(&receiver));
+    printf("%s %u", verb, opens ? open_sender(len) : pocket_sender_reset(&sender, in, len));
+    printf(" %u\n", opens ? open_receiver() : pocket_receiver_reset(&receiver));
 }
 
 static void receive(unsigned count, const uint8_t *bytes, size_t len) {
@@ -213,34 +207,36 @@ static char *next_word(char **from) {
     return word;
 }
 
+static unsigned next_number(char **from) {
+    return (unsigned)strtoul(next_word(from), NULL, 10);
+}
+
 int main(void) {
     while (fgets(line, sizeof line, stdin)) {
         char *from = line;
         line[strcspn(line, "\n")] = 0;
         char *verb = next_word(&from);
         if (!strcmp(verb, "open")) {
-            bits = (uint32_t)strtoul(next_word(&from), NULL, 10);
-            open_both(next_word(&from));
+            bits = next_number(&from);
+            begin_both(verb, true, next_word(&from));
         } else if (!strcmp(verb, "send")) {
-            unsigned flags = (unsigned)strtoul(next_word(&from), NULL, 10);
-            unsigned robust = (unsigned)strtoul(next_word(&from), NULL, 10);
-            unsigned on = (unsigned)strtoul(next_word(&from), NULL, 10);
+            unsigned flags = next_number(&from), robust = next_number(&from), on = next_number(&from);
             send_one(flags, robust, on, next_word(&from));
         } else if (!strcmp(verb, "receive")) {
-            unsigned count = (unsigned)strtoul(next_word(&from), NULL, 10);
+            unsigned count = next_number(&from);
             size_t len = bytes_of(next_word(&from));
             receive(count, in, len);
         } else if (!strcmp(verb, "reset"))
-            reset_both(next_word(&from));
+            begin_both(verb, false, next_word(&from));
         else if (!strcmp(verb, "close"))
             close_both();
         else if (!strcmp(verb, "save"))
             save();
         else if (!strcmp(verb, "resume")) {
-            char *count = next_word(&from), *of_sender = next_word(&from);
+            unsigned count = next_number(&from);
+            char *of_sender = next_word(&from);
             resume(count, of_sender, next_word(&from));
-        }
-        else {
+        } else {
             char *name = next_word(&from);
             if (!at_desk(verb, name, next_word(&from)))
                 return 2;

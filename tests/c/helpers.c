@@ -41,7 +41,6 @@ static void try_value(uint64_t value)
 
 int main(void)
 {
-    uint64_t value = 88172645463325252u;
     int number;
     for (number = 0; number < 64; number++) {
         try_value((uint64_t)1 << number);
@@ -50,7 +49,7 @@ int main(void)
     }
     try_value(0);
     for (number = 0; number < CASES; number++) {
-        value ^= value << 13, value ^= value >> 7, value ^= value << 17;
+        const uint64_t value = drawn(UINT64_MAX);
         try_value(value);
         try_value(value >> number % 64);
     }

@@ -2,7 +2,6 @@
  * the file in whole, so that it sees what lies in a block. Its word, `all`, or `some` for valgrind, says for how many numbers of bits. */
 #include "pocket.c"
 #include "check.h"
-#include <stdlib.h>
 
 /* The names of the header are those of its checks. */
 #define pocket_sender_open_in pocket_checked_sender_open_in
@@ -50,12 +49,12 @@ static void paint(pocket_handle *handle)
     memset(block_of(handle), PAINT, STACK_BYTES);
 }
 
-/* How many bytes of the stack were written since it was painted. */
-static u32 depth(const pocket_handle *handle)
+/* How many bytes of the stack were written since all were these. */
+static u32 depth(const pocket_handle *handle, u8 paint)
 {
     const u8 *const m = block_of(handle);
     u32 at = 0;
-    while (at < STACK_BYTES && m[at] == PAINT)
+    while (at < STACK_BYTES && m[at] == paint)
         at++;
     return STACK_BYTES - at;
 }
@@ -90,8 +89,8 @@ static u32 deepest(uint32_t bits)
             check(pocket_receive(&receiver, (uint16_t)number, data, length, content, sizeof content, &finding) == POCKET_DONE, "a receive", bits);
         check(pocket_save(&sender, state, sizeof state, &length) == POCKET_DONE && pocket_load(&sender, state, length) == POCKET_DONE &&
               pocket_save(&receiver, state, sizeof state, &length) == POCKET_DONE && pocket_load(&receiver, state, length) == POCKET_DONE, "states", bits);
-        found = depth(&sender) > found ? depth(&sender) : found;
-        found = depth(&receiver) > found ? depth(&receiver) : found;
+        found = depth(&sender, PAINT) > found ? depth(&sender, PAINT) : found;
+        found = depth(&receiver, PAINT) > found ? depth(&receiver, PAINT) : found;
     }
     check(found <= DEEPEST, "the stack is deeper than was reckoned", bits);
     pocket_close(&sender);
@@ -103,14 +102,11 @@ static u32 deepest(uint32_t bits)
 static u32 deepest_opening(void)
 {
     pocket_handle receiver = POCKET_NOTHING;
-    const u8 *m;
-    u32 at = 0;
+    u32 found;
     pocket_receiver_open_in(&receiver, receiver_memory, sizeof receiver_memory, BITS);
-    m = block_of(&receiver);
-    while (at < STACK_BYTES && m[at] == 0)
-        at++;
+    found = depth(&receiver, 0);
     pocket_close(&receiver);
-    return STACK_BYTES - at;
+    return found;
 }
 
 /* A block that was damaged: its handle points outside. The call is ended, and so are all others until it is closed. */

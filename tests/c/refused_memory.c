@@ -5,8 +5,6 @@
  * it takes no desk, as the one file has none. */
 #include "pocket.h"
 #include "check.h"
-#include <stdlib.h>
-#include <string.h>
 
 void *__real_malloc(size_t);
 void *__real_realloc(void *, size_t);

@@ -2,28 +2,18 @@
  * POCKET_NO_DESK those of a desk are left out, as the one file has none. */
 #include "pocket.h"
 #include "check.h"
-#include <string.h>
 
 enum { BITS = 64, BYTES = BITS / 8, ROOM = POCKET_PACKET_BYTES(BITS), MANY = 100, APID = 100 };
 
 #define check(held, what) check(held, what, __LINE__)
 
-static uint32_t seed = 1;
-
-static uint32_t drawn(uint32_t below)
-{
-    seed = seed * 1664525u + 1013904223u;
-    return (uint32_t)(((uint64_t)seed * below) >> 32);
-}
-
 /* Inputs of 64 bits in which one of eight bits turns. */
 static uint8_t input[BYTES];
 
-static void begin(uint32_t number)
+static void begin(void)
 {
     unsigned i;
 
-    seed = number;
     for (i = 0; i < BYTES; i++)
         input[i] = (uint8_t)drawn(256);
 }
@@ -109,7 +99,7 @@ static void numbers(void)
     uint32_t bits, t;
     bool is_right;
 
-    begin(1);
+    begin();
     open_both(&sender, &receiver);
     one = made(&sender, 1);
     finding = found(&receiver, 700, &one, &is_right);
@@ -171,7 +161,7 @@ static void out_of_order(void)
     unsigned t, unwritten = 0;
     bool is_right;
 
-    begin(7);
+    begin();
     open_both(&sender, &receiver);
     for (t = 0; t < MANY; t++) {
         packets[t] = made(&sender, 1);
@@ -192,6 +182,36 @@ static void out_of_order(void)
     pocket_close(&desk);
     close_both(&sender, &receiver);
 }
+
+/* Each flag by the letter that the program has for it, which is that of the standard. */
+static void letters(void)
+{
+    static const char *const plans[3] = {"5,5,1,p\n", "5,5,1,f\n", "5,5,1,r\n"};
+    unsigned flag, t;
+
+    for (flag = 0; flag < 3; flag++) {
+        pocket_handle sender = POCKET_NOTHING, desk = POCKET_NOTHING;
+        static uint8_t inputs[10 * BYTES], store[10 * (6 + ROOM)], wanted[sizeof store];
+        size_t at = 0, length;
+        uint8_t level;
+
+        begin();
+        pocket_sender_open(&sender, BITS, NULL, 0);
+        for (t = 0; t < 10; t++) {
+            move();
+            memcpy(inputs + t * BYTES, input, BYTES);
+            check(pocket_send(&sender, input, BYTES, flag == 0 && t == 5, flag == 1 && t == 5, flag == 2 && t == 5, 1, wanted + at + 6, ROOM, &length, &level) == POCKET_DONE, "a flag");
+            check(pocket_header(APID, t, length, wanted + at) == POCKET_DONE, "a header");
+            at += 6 + length;
+        }
+        check(pocket_desk_open(&desk) == POCKET_DONE && pocket_put(&desk, "x", inputs, sizeof inputs) == POCKET_DONE, "a desk");
+        check(pocket_put(&desk, "p", (const uint8_t *)plans[flag], strlen(plans[flag])) == POCKET_DONE, "a schedule");
+        command(&desk, "compress in=x out=s bits=64 apid=100 robust=1 plan=p");
+        check(pocket_get(&desk, "s", store, sizeof store, &length) == POCKET_DONE && length == at && memcmp(store, wanted, at) == 0, plans[flag]);
+        pocket_close(&desk);
+        pocket_close(&sender);
+    }
+}
 #endif
 
 /* How many of fifty packets after a restart are right, wrong in their content, and unwritten, if the first ones are lost. */
@@ -199,7 +219,7 @@ typedef struct fates {
     unsigned right, wrong, unwritten;
 } fates;
 
-static fates restarted(uint32_t number, uint8_t robustness, unsigned left_out, unsigned lost, bool anew)
+static fates restarted(uint8_t robustness, unsigned left_out, unsigned lost, bool anew)
 {
     pocket_handle sender = POCKET_NOTHING, receiver = POCKET_NOTHING;
     fates told = {0, 0, 0};
@@ -207,14 +227,14 @@ static fates restarted(uint32_t number, uint8_t robustness, unsigned left_out, u
     unsigned t;
     bool is_right;
 
-    begin(number);
+    begin();
     open_both(&sender, &receiver);
     for (next = 0; next < MANY; next++) {
         packet one = made(&sender, robustness);
         found(&receiver, next, &one, &is_right);
         check(is_right, "a packet before a restart");
     }
-    begin(number + 1000);
+    begin();
     check(pocket_close(&sender) == POCKET_DONE && pocket_sender_open(&sender, BITS, NULL, 0) == POCKET_DONE, "a restart");
     if (anew)
         check(pocket_receiver_reset(&receiver) == POCKET_DONE, "a receiver is reset");
@@ -239,50 +259,18 @@ static void restarts(void)
 
     for (number = 0; number < 20; number++)
         for (robustness = 0; robustness <= POCKET_MOST_ROBUSTNESS; robustness++) {
-            fates told = restarted(number, (uint8_t)robustness, 0, 0, false);
+            fates told = restarted((uint8_t)robustness, 0, 0, false);
             wrong += told.wrong;
             unwritten += told.unwritten;
-            check(restarted(number, (uint8_t)robustness, 16, 0, false).right == 50, "after 16 counts that are left out all packets are right");
-            check(restarted(number, (uint8_t)robustness, 16, robustness, false).right == 50 - robustness, "as many of the first may be lost as the robustness says");
-            told = restarted(number, (uint8_t)robustness, 16, robustness + 1, false);
+            check(restarted((uint8_t)robustness, 16, 0, false).right == 50, "after 16 counts that are left out all packets are right");
+            check(restarted((uint8_t)robustness, 16, robustness, false).right == 50 - robustness, "as many of the first may be lost as the robustness says");
+            told = restarted((uint8_t)robustness, 16, robustness + 1, false);
             check(told.wrong == 0, "one more is lost, and no content is wrong");
-            check(restarted(number, (uint8_t)robustness, 0, 0, true).right == 50, "a receiver that was reset writes all packets");
+            check(restarted((uint8_t)robustness, 0, 0, true).right == 50, "a receiver that was reset writes all packets");
         }
     check(unwritten > 0, "with the counts going on packets are refused");
     check(wrong > 0, "with the counts going on contents are given that were not sent");
 }
-
-#ifndef POCKET_NO_DESK
-/* Each flag by the letter that the program has for it, which is that of the standard. */
-static void letters(void)
-{
-    static const char *const plans[3] = {"5,5,1,p\n", "5,5,1,f\n", "5,5,1,r\n"};
-    unsigned flag, t;
-
-    for (flag = 0; flag < 3; flag++) {
-        pocket_handle sender = POCKET_NOTHING, desk = POCKET_NOTHING;
-        static uint8_t inputs[10 * BYTES], store[10 * (6 + ROOM)], wanted[sizeof store];
-        size_t at = 0, length;
-        uint8_t level;
-
-        begin(3);
-        pocket_sender_open(&sender, BITS, NULL, 0);
-        for (t = 0; t < 10; t++) {
-            move();
-            memcpy(inputs + t * BYTES, input, BYTES);
-            check(pocket_send(&sender, input, BYTES, flag == 0 && t == 5, flag == 1 && t == 5, flag == 2 && t == 5, 1, wanted + at + 6, ROOM, &length, &level) == POCKET_DONE, "a flag");
-            check(pocket_header(APID, t, length, wanted + at) == POCKET_DONE, "a header");
-            at += 6 + length;
-        }
-        check(pocket_desk_open(&desk) == POCKET_DONE && pocket_put(&desk, "x", inputs, sizeof inputs) == POCKET_DONE, "a desk");
-        check(pocket_put(&desk, "p", (const uint8_t *)plans[flag], strlen(plans[flag])) == POCKET_DONE, "a schedule");
-        command(&desk, "compress in=x out=s bits=64 apid=100 robust=1 plan=p");
-        check(pocket_get(&desk, "s", store, sizeof store, &length) == POCKET_DONE && length == at && memcmp(store, wanted, at) == 0, plans[flag]);
-        pocket_close(&desk);
-        pocket_close(&sender);
-    }
-}
-#endif
 
 int main(void)
 {

@@ -3,20 +3,11 @@
  * libFuzzer makes what stands between the head and the sum. */
 #include "pocket.h"
 #include "check.h"
-#include <stdlib.h>
-#include <string.h>
 
 enum { MOST = 200, CALLS = 100, HEAD = 10, MOST_BYTES = POCKET_INPUT_BYTES(MOST), ROOM = POCKET_SENDER_STATE_BYTES(MOST) };
 static unsigned long taken;
-static uint64_t seed = 88172645463325252u;
 static uint8_t before[ROOM], after[ROOM], state[ROOM + 16];
 static const uint32_t bits_tried[] = { 1, 7, 8, 13, 32, 47, 56, 64, 100, MOST };
-
-static uint64_t drawn(uint64_t below)
-{
-    seed ^= seed << 13, seed ^= seed >> 7, seed ^= seed << 17;
-    return seed % below;
-}
 
 static void put(uint8_t *at, uint64_t value, int bytes)
 {

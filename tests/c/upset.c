@@ -3,13 +3,11 @@
  * the alarm, if a call has no end. After each turned bit the call gives an answer, and if it is POCKET_BROKEN, so do all that follow, and the
  * handle can be closed. Its words are numbers of bits. */
 #include "pocket.h"
-#include <stdio.h>
-#include <stdlib.h>
-#include <string.h>
+#include "check.h"
 #include <unistd.h>
 
 enum { PACKETS = 20, SECONDS = 300 };
-static unsigned long calls, broken, failed, seen;
+static unsigned long broken, seen;
 
 /* What a block was before a bit is turned, and the data of the packet that is next. */
 typedef struct stage {
@@ -48,7 +46,7 @@ static rooms rooms_of(uint32_t bits, const stage *from, uint32_t kind)
     rooms made;
     made.state_bytes = pocket_state_bytes(bits, kind), made.saved_length = 0;
     made.input = taken(POCKET_INPUT_BYTES(bits)), made.data = taken(POCKET_PACKET_BYTES(bits)), made.state = taken(made.state_bytes);
-    failed += pocket_save(&handle, made.state, made.state_bytes, &made.saved_length) != POCKET_DONE;
+    check(pocket_save(&handle, made.state, made.state_bytes, &made.saved_length) == POCKET_DONE, "a save", bits);
     made.saved = taken(made.saved_length);
     memcpy(made.saved, made.state, made.saved_length);
     made.content = taken(POCKET_INPUT_BYTES(bits)), made.arrived = taken(from->next_length), made.cut = taken(from->next_length / 2);
@@ -127,12 +125,12 @@ static void upset(bool sends, const stage *from, unsigned kind, uint32_t bits)
         memcpy(memory, from->block, from->bytes);
         memory[bit / 8] ^= (uint8_t)(1u << bit % 8);
         status = call_one(sends, &handle, kind, bits, from, in);
-        calls++, broken += status == POCKET_BROKEN;
+        broken += status == POCKET_BROKEN;
         if (kind == last)
             continue;
         after = call_one(sends, &handle, bit % last, bits, from, in);
-        failed += status == POCKET_BROKEN && after != POCKET_BROKEN;
-        failed += pocket_close(&handle) != POCKET_DONE || handle.at != NULL;
+        check(status != POCKET_BROKEN || after == POCKET_BROKEN, "a broken end that answers something else", bit);
+        check(pocket_close(&handle) == POCKET_DONE && handle.at == NULL, "an end that can't be closed", bit);
     }
     free(memory), forget(in);
 }
@@ -148,16 +146,16 @@ static void upsets(uint32_t bits, unsigned packets)
     unsigned number, kind;
     sender.block = taken(sender.bytes), receiver.block = taken(receiver.bytes);
     receiver.next = data;
-    failed += pocket_sender_open_in(&one, sender.block, sender.bytes, bits, NULL, 0) != POCKET_DONE;
-    failed += pocket_receiver_open_in(&other, receiver.block, receiver.bytes, bits) != POCKET_DONE;
-    failed += one.at != sender.block || other.at != receiver.block;
+    check(pocket_sender_open_in(&one, sender.block, sender.bytes, bits, NULL, 0) == POCKET_DONE, "a sender", bits);
+    check(pocket_receiver_open_in(&other, receiver.block, receiver.bytes, bits) == POCKET_DONE, "a receiver", bits);
+    check(one.at == sender.block && other.at == receiver.block, "their memory", bits);
     for (number = 0; number <= packets; number++) {
         turn(input, bits, number);
-        failed += pocket_send(&one, input, POCKET_INPUT_BYTES(bits), number % 7 == 6, false, number % 9 == 0, 2, data, POCKET_PACKET_BYTES(bits),
-                              &receiver.next_length, &found) != POCKET_DONE;
+        check(pocket_send(&one, input, POCKET_INPUT_BYTES(bits), number % 7 == 6, false, number % 9 == 0, 2, data, POCKET_PACKET_BYTES(bits),
+                          &receiver.next_length, &found) == POCKET_DONE, "a send", number);
         if (number < packets)
-            failed += pocket_receive(&other, (uint16_t)(PACKETS - packets + number), data, receiver.next_length, input, POCKET_INPUT_BYTES(bits),
-                                     &finding) != POCKET_DONE;
+            check(pocket_receive(&other, (uint16_t)(PACKETS - packets + number), data, receiver.next_length, input, POCKET_INPUT_BYTES(bits),
+                                 &finding) == POCKET_DONE, "a receive", number);
     }
     for (kind = 0; kind <= 7; kind++)
         upset(true, &sender, kind, bits);
@@ -175,8 +173,6 @@ int main(int count, char **words)
         upsets(bits, 0);
         upsets(bits, PACKETS);
     }
-    if (failed)
-        printf("upsets: %lu of %lu calls were followed by another answer\n", failed, calls);
-    printf("%lu passed, %lu failed\n", calls - failed, failed);
-    return failed || broken == 0;
+    check(broken > 0, "none is broken", 0);
+    return counted();
 }

@@ -2,8 +2,6 @@
  * takes no desk, as the one file has none. */
 #include "pocket.h"
 #include "check.h"
-#include <stdlib.h>
-#include <string.h>
 
 #define check(held, what) check(held, what, __LINE__)
 
