@@ -101,8 +101,6 @@ class Browser:
         """Begins a session."""
         self.session = self.ask("NewSession", capabilities={"alwaysMatch": wanted})["sessionId"]
         self.ask("SetTimeouts", script=LIMIT * 1000, pageLoad=LIMIT * 1000)
-        if self.name == "chromium":
-            self.ask("Log", type="performance")  # (what was traced of its beginning fills the room)
         self.size(1280, 1600)
 
     def end(self):
@@ -223,6 +221,8 @@ class Browser:
     def tasks(self, steps):
         """Does some steps after the page was opened, and gives for each the processor's time of each task of the page's thread meanwhile, in
         milliseconds, if the browser tells it; or the fault of a step."""
+        if self.name == "chromium":
+            self.ask("Log", type="performance")  # (what was traced before fills the room)
         spans = []
         for step in steps:
             begin, fault = time.monotonic(), step()
@@ -240,7 +240,7 @@ class Browser:
             pages.update((it["pid"], it["tid"]) for it in events if it["ph"] == "M" and it["args"].get("name") == "CrRendererMain")
             return any(it["ts"] > spans[-1][1] for it in events if (it["pid"], it["tid"]) in pages)
 
-        if not until(are_told):
+        if not until(are_told, LIMIT):
             raise RuntimeError("the browser does not tell its tasks")
         found = [it for it in events if it["name"] == "ThreadControllerImpl::RunTask" and it["ph"] == "X" and (it["pid"], it["tid"]) in pages]
         return [[it.get("tdur", 0) / 1000 for it in sorted(found, key=lambda it: it["ts"]) if begin <= it["ts"] <= end] for begin, end in spans]
