@@ -22,14 +22,14 @@ def put(folder, name, content):
     return str(path)
 
 
-def sparse(folder, name, front, every=None):
+def sparse(folder, name, front, every=GIGABYTE):
     """A file of a gigabyte that begins with these bytes, and has them again after every so many; all else are zeros."""
-    path = put(folder, name, front)
-    with open(path, "r+b") as file:
-        for place in range(0, GIGABYTE - len(front), every) if every else ():
+    path = os.path.join(folder, name)
+    with open(path, "wb") as file:
+        for place in range(0, GIGABYTE - len(front), every):
             file.seek(place)
             file.write(front)
-        file.truncate(GIGABYTE // every * every if every else GIGABYTE)
+        file.truncate(GIGABYTE // every * every)
     return path
 
 

@@ -1,9 +1,10 @@
-"""How the page looks at several sizes of a window, and what it is for those who don't see it. Each case gives its fault, or None."""
+"""How the page looks at several sizes of a window, and what it is for those who don't see it. Each case asserts what must be."""
 
 import os
 import pathlib
 
-from browser_ways import begin, click, give, text
+from browser_ways import IS_STILL, begin, click, give, hear
+from webdriver import until
 
 VIEWS = ["forecast", "store", "streams", "fields"]
 SIZES = [(320, 640), (390, 844), (800, 900), (1280, 800), (1920, 1080)]
@@ -47,13 +48,12 @@ def tell_picture(browser, page, _):
     seen = []
     for light in LIGHTS:
         browser.light(light)
-        browser.size(1280, 800)
         begin(browser, page, "forecast")
-        browser.wait("document.getElementById('rows-told').textContent.startsWith('These')", 60)
+        hear(browser, "rows-told", "These")
         seen.append(browser.picture())
         pathlib.Path(os.path.dirname(page), "out", f"{browser.name}-{light}.png").write_bytes(seen[-1])
     sizes = [len(png) for png in seen]
-    return f"the pictures have {sizes} bytes" if min(sizes) < LEAST_PICTURE or seen[0] == seen[1] else None
+    assert min(sizes) >= LEAST_PICTURE and seen[0] != seen[1], f"the pictures have {sizes} bytes"
 
 
 def with_examples(browser, page):
@@ -62,21 +62,16 @@ def with_examples(browser, page):
     for view, example in EXAMPLES.items():
         click(browser, f"tab-{view}")
         click(browser, example)
-        if not browser.wait(f"/restored|with 5 fields/.test(document.getElementById('{view}-sum').textContent)", 60):
-            raise RuntimeError(f"the example of {view} did not come")
+        assert browser.wait(f"/restored|with 5 fields/.test(document.getElementById('{view}-sum').textContent)", 60), f"the example of {view} did not come"
 
 
-def misplaced(browser, view, width):
-    """What is wrong with a view in a window of this width, or None."""
-    wide = browser.value(TOO_WIDE)
-    if wide:
-        return f"{wide} is too wide"
-    inputs, main = browser.value(PLACES % view)
-    if width < 800 and inputs[3] > main[1]:
-        return "inputs and picture are not in one column"
-    if width >= 800 and inputs[2] > main[0]:
-        return "the inputs are not at the left of the picture"
-    return f"the picture ends at {main[2]}" if width >= 1280 and main[2] < width - 40 else None
+def hold_places(browser, view, width):
+    """How a view stands in a window of this width."""
+    wide, (inputs, main), at = browser.value(TOO_WIDE), browser.value(PLACES % view), f"{view} at {width}: "
+    assert not wide, f"{at}{wide} is too wide"
+    assert width >= 800 or inputs[3] <= main[1], f"{at}inputs and picture are not in one column"
+    assert width < 800 or inputs[2] <= main[0], f"{at}the inputs are not at the left of the picture"
+    assert width < 1280 or main[2] >= width - 40, f"{at}the picture ends at {main[2]}"
 
 
 def tell_sizes(browser, page, _):
@@ -85,46 +80,36 @@ def tell_sizes(browser, page, _):
     for width, height in SIZES:
         browser.size(width, height)
         width = browser.value("innerWidth")  # (a browser may have a least one)
-        if width >= 390 and browser.value(TOPS) != 1:
-            return f"at {width} the tabs are on {browser.value(TOPS)} lines"
+        assert width < 390 or browser.value(TOPS) == 1, f"at {width} the tabs are on {browser.value(TOPS)} lines"
         for view in VIEWS:
             click(browser, f"tab-{view}")
             browser.frame()
-            fault = misplaced(browser, view, width)
-            if fault:
-                return f"{view} at {width}: {fault}"
+            hold_places(browser, view, width)
             browser.value("document.documentElement.style.fontSize = '200%'")
             wide = browser.value(TOO_WIDE) if width > 800 else ""
             browser.value("document.documentElement.style.fontSize = ''")
-            if wide:
-                return f"{view} at {width}, with a font twice as large: {wide} is too wide"
-    return None
+            assert not wide, f"{view} at {width}, with a font twice as large: {wide} is too wide"
 
 
 def tell_names(browser, page, _):
     """Buttons have names of their own, labelled parts have roles, texts have contrast, and a text can be dragged within a field."""
     for light in LIGHTS:
         browser.light(light)
-        browser.size(1280, 800)
         with_examples(browser, page)
-        fault = unnamed_or_faint(browser)
+        hold_names(browser, light)
         for field, wrong in WRONG.items():
             give(browser, field, wrong)
-        if not browser.wait(f"document.querySelectorAll('.refusal:not([hidden])').length >= {len(WRONG)}", 30):
-            return "what is wrong is not refused"
-        fault = fault or unnamed_or_faint(browser)
-        if fault:
-            return f"{light}: {fault}"
-    if browser.value(NO_ROLE):
-        return f"{browser.value(NO_ROLE)} have a label and no role"
+        assert browser.wait(f"document.querySelectorAll('.refusal:not([hidden])').length >= {len(WRONG)}", 30), "what is wrong is not refused"
+        hold_names(browser, light)
+    without = browser.value(NO_ROLE)
+    assert not without, f"{without} have a label and no role"
     found = browser.value(DROPS)
-    return None if found == [False, True] else f"a text and a file that are dragged are taken: {found}"
+    assert found == [False, True], f"a text and a file that are dragged are taken: {found}"
 
 
 def tell_media(browser, page, _):
     """On paper the bits and the APID of a store are there, and no card is moved away from the head; in forced colours the chosen tab and
     the legend's signs can be told."""
-    browser.size(1280, 800)
     with_examples(browser, page)
     click(browser, "tab-store")
     colours = "[...document.querySelectorAll('[role=tab]')].map(it => getComputedStyle(it).borderBottomColor)"
@@ -136,9 +121,8 @@ def tell_media(browser, page, _):
         tabs, signs = browser.value(colours), browser.value("[...document.querySelectorAll('#store-legend .sign')].map(it => getComputedStyle(it).backgroundColor)")
     finally:
         browser.media("", {})
-    if seen != ["store-bits", "store-apid", "store-strip"] or whole:
-        return f"on paper there are {seen}, and {whole} cards that can't be broken"
-    return None if tabs[1] not in (tabs[0], tabs[2]) and len(set(signs)) == len(signs) else f"in forced colours the tabs are {tabs}, and the signs {signs}"
+    assert seen == ["store-bits", "store-apid", "store-strip"] and not whole, f"on paper there are {seen}, and {whole} cards that can't be broken"
+    assert tabs[1] not in (tabs[0], tabs[2]) and len(set(signs)) == len(signs), f"in forced colours the tabs are {tabs}, and the signs {signs}"
 
 
 # What some tasks ask for, of the examples: the view, where the answer stands, and what it has.
@@ -147,7 +131,6 @@ ANSWERS = [("forecast", "forecast-sure", "Sure: 0 to 9, 11 to 49"), ("forecast",
 
 def tell_answers(browser, page, files):
     """What a task asks for stands in sight, without scrolling, at 1280 by 800."""
-    browser.size(1280, 800)
     with_examples(browser, page)
     store, wrong, lost = files["answers"]
     click(browser, "tab-store")
@@ -158,26 +141,20 @@ def tell_answers(browser, page, files):
     click(browser, "to-streams")
     for view, part, words in [*ANSWERS, ("store", "store-wrong", wrong), ("streams", "streams-sum", lost)]:
         click(browser, f"tab-{view}")
-        if not browser.wait(f"document.getElementById('{part}').textContent.includes({words!r})", 30):
-            return f"{part} says {text(browser, part)!r}"
+        hear(browser, part, words)
         top, bottom = browser.value(f"(box => [box.top, box.bottom])(document.getElementById('{part}').getBoundingClientRect())")
-        if browser.value("scrollY") or top < 0 or bottom > 800:
-            return f"{part} lies from {top} to {bottom}"
-    return None
+        assert browser.value("scrollY") == 0 and top >= 0 and bottom <= 800, f"{part} lies from {top} to {bottom}"
 
 
-def unnamed_or_faint(browser):
-    """Which buttons have one name, or which texts are faint, in any view; or None."""
+def hold_names(browser, light):
+    """No view has two buttons of one name, or a text that is faint."""
     for view in VIEWS:
         click(browser, f"tab-{view}")
-        browser.wait("document.querySelectorAll('.old').length === 0", 30)
-        names = browser.value(NAMES)
+        browser.wait(IS_STILL, 30)
+        names, faint = browser.value(NAMES), browser.value(FAINT)
         twice = sorted({name for name in names if names.count(name) > 1 or not name})
-        if twice:
-            return f"{view} has buttons of one name: {twice}"
-        if browser.value(FAINT):
-            return f"{view}: {browser.value(FAINT)} are faint"
-    return None
+        assert not twice, f"{light}: {view} has buttons of one name: {twice}"
+        assert not faint, f"{light}: {view}: {faint} are faint"
 
 
 def tell_saved(browser, page, files):
@@ -186,7 +163,7 @@ def tell_saved(browser, page, files):
     for name in ("plan", "script"):
         browser.choose(f"{name}-file", files[name])
     give(browser, "packets", "60")
-    browser.wait("document.getElementById('forecast-sum').textContent.includes('of 60')", 60)
+    hear(browser, "forecast-sum", "of 60")
     save = lambda area: browser.value(f"document.querySelector('#{area}-box .files button').click()")
     save("plan")
     save("script")
@@ -195,19 +172,14 @@ def tell_saved(browser, page, files):
     give(browser, "fields-bits", "64")
     browser.choose("fields-file", files["fields"])
     browser.choose("recording-file", files["recording"])
-    browser.wait("document.getElementById('fields-sum').textContent.includes('with 5 fields')", 60)
+    hear(browser, "fields-sum", "with 5 fields")
     save("fields")
     click(browser, "save-table")
     click(browser, "save-outside")
     for name, wanted in files["wanted"].items():
-        path = os.path.join(browser.saved, name)
-        for _ in range(100):
-            if os.path.exists(path) and os.path.getsize(path) >= len(wanted):
-                break
-            browser.frame()
-        if pathlib.Path(path).read_bytes() != wanted:
-            return f"{name} is another one"
-    return None
+        path = pathlib.Path(browser.saved, name)
+        until(lambda path=path, size=len(wanted): path.exists() and path.stat().st_size >= size)
+        assert path.read_bytes() == wanted, f"{name} is another one"
 
 
 def tell_policy(browser, page, _):
@@ -216,4 +188,4 @@ def tell_policy(browser, page, _):
     refused = browser.value("(() => { try { document.createElement('div').innerHTML = '<b>x</b>'; return ''; } catch (fault) { return fault.name; } })()")
     worker = browser.value("(() => { try { new Worker('data:text/javascript,1'); return ''; } catch (fault) { return fault.name; } })()")
     has_tests = "the words of ten packets" in pathlib.Path(page).read_text("utf-8")
-    return None if (refused, worker, has_tests) == ("TypeError", "TypeError", False) else f"a text as HTML: {refused!r}, another worker: {worker!r}, tests: {has_tests}"
+    assert (refused, worker, has_tests) == ("TypeError", "TypeError", False), f"a text as HTML: {refused!r}, another worker: {worker!r}, tests: {has_tests}"

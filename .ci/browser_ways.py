@@ -1,4 +1,4 @@
-"""What is done with the page as it ships: hands and fingers, and large files. Each case gives its fault, or None.
+"""What is done with the page as it ships: hands and fingers, and large files. Each case asserts what must be.
 
 The milliseconds that a case names are a goal. What fails is a step whose best time of all tries is above twice the goal, or above more if
 the loop below takes longer than it did when it was measured: at a load of 7, for no quiet machine was at hand."""
@@ -29,30 +29,21 @@ def longest_two(times):
     return max(map(sum, zip(long, long[1:])), default=longest(long))
 
 
-def taken(browser, steps, of):
-    """What each of some steps takes, by its tasks' processor time in milliseconds, or the fault of one."""
-    times = browser.tasks(steps)
-    return times if isinstance(times, str) else [of(it) for it in times]
-
-
 def slowness(browser):
     """How many times as long as then the loop takes now; at least 1."""
     browser.open("about:blank")
-    return max(1, longest(browser.tasks([lambda: browser.value(LOOP) and None])[0]) / LOOP_TOOK)
+    return max(1, longest(browser.tasks([lambda: browser.value(LOOP)])[0]) / LOOP_TOOK)
 
 
-def measured(browser, take, most, words):
-    """The fault of what is tried, or that a step takes more than so many milliseconds in all tries; or None. `take` tries all
-    steps, and gives what each took, or a fault; `words` tell a time."""
+def measure(browser, take, most, words):
+    """Holds each step to so many milliseconds in one of its tries. `take` tries all steps, and gives what each took; `words` tell a time."""
     best = None
     for _ in range(TRIES):
         found = take()
-        if isinstance(found, str):
-            return found
         best = [min(it) for it in zip(best or found, found)]
         if max(best) <= most * BESIDE or max(best) <= most * BESIDE * slowness(browser):
-            return None
-    return words.format(round(max(best)))
+            return
+    raise AssertionError(words.format(round(max(best))))
 
 
 def text(browser, part):
@@ -64,11 +55,11 @@ def click(browser, part):
     browser.value(f"document.getElementById('{part}').click()")
 
 
-def begin(browser, page, view):
-    """Opens the page anew, at a view."""
+def begin(browser, page, view, size=(1280, 800)):
+    """Opens the page anew, at a view, in a window of this size."""
+    browser.size(*size)
     browser.open(f"file://{page}")
-    if not browser.wait("document.querySelector('main')?.hidden === false", 60):
-        raise RuntimeError(f"the page did not begin: {browser.value('document.body.innerText')[:300]!r}")
+    assert browser.wait("document.querySelector('main')?.hidden === false", 60), f"the page did not begin: {browser.value('document.body.innerText')[:300]!r}"
     click(browser, f"tab-{view}")
     browser.wait(IS_STILL, 60)
 
@@ -86,76 +77,65 @@ def seen(browser, strip):
     return 10 * int(browser.value(f"document.getElementById('{strip}').getAttribute('aria-valuenow')"))
 
 
+def shown_middle(browser):
+    """Scrolls the strip of the forecast into sight, and gives where its middle is then."""
+    browser.value("document.getElementById('forecast-strip').scrollIntoView({block: 'center'})")
+    return browser.middle("forecast-strip")
+
+
 def tell_wheel(browser, page, _):
     """The wheel scrolls the page; with Ctrl, or on a strip that has the focus, it zooms."""
-    browser.size(1280, 500)
-    begin(browser, page, "forecast")
+    begin(browser, page, "forecast", (1280, 500))
     browser.wheel(browser.middle("forecast-strip"), 120)
-    if not browser.wait("scrollY > 0", 10):
-        return "the wheel over the strip does not scroll the page"
+    assert browser.wait("scrollY > 0", 10), "the wheel over the strip does not scroll the page"
     browser.value("scrollTo(0, 0)")
-    if seen(browser, "forecast-strip") != 1000:
-        return f"a wheel that scrolls leaves {seen(browser, 'forecast-strip')} packets in sight"
+    found = seen(browser, "forecast-strip")
+    assert found == 1000, f"a wheel that scrolls leaves {found} packets in sight"
     browser.value("document.activeElement.blur()")
     browser.wheel(browser.middle("forecast-strip"), -60, "Control")
     found = seen(browser, "forecast-strip")
-    if not 0 < found < 1000:
-        return f"the wheel with Ctrl leaves {found} packets in sight"
+    assert 0 < found < 1000, f"the wheel with Ctrl leaves {found} packets in sight"
     browser.wheel(browser.middle("forecast-strip"), 60, "Shift")  # (the focus is on the strip: it moves what is seen)
-    return None if browser.value("scrollY") == 0 else "the wheel scrolls the page though the strip has the focus"
+    assert browser.value("scrollY") == 0, "the wheel scrolls the page though the strip has the focus"
 
 
 def tell_fingers(browser, page, _):
     """A swipe up scrolls the page, two fingers zoom, and no finger makes a row."""
-    browser.size(390, 700)
-    begin(browser, page, "forecast")
+    begin(browser, page, "forecast", (390, 700))
     texts = "document.getElementById('plan').value + document.getElementById('script').value"
     before = browser.value(texts)
-    return by_fingers(browser) or (None if browser.value(texts) == before else "fingers changed the schedule or the losses")
-
-
-def by_fingers(browser):
-    """What is wrong after a swipe up, two fingers, a swipe to the side and a button, or None."""
-    show = "document.getElementById('forecast-strip').scrollIntoView({block: 'center'})"
-    browser.value(show)
-    place, top = browser.middle("forecast-strip"), browser.value("scrollY")
-    x, y = place["x"], place["y"]
-    browser.touch(((x, y), (x, y - 150)))
-    if not browser.wait(f"scrollY > {top} + 80", 10):
-        return "a swipe over the strip does not scroll the page"
-    browser.value(show)
-    browser.touch(((x - 30, y), (x - 110, y)), ((x + 30, y), (x + 110, y)))
+    (x, y), top = shown_middle(browser), browser.value("scrollY")
+    browser.drag("touch", ((x, y), (x, y - 150)))
+    assert browser.wait(f"scrollY > {top} + 80", 10), "a swipe over the strip does not scroll the page"
+    shown_middle(browser)
+    browser.drag("touch", ((x - 30, y), (x - 110, y)), ((x + 30, y), (x + 110, y)))
     found = seen(browser, "forecast-strip")
-    if not 0 < found < 700:
-        return f"two fingers leave {found} packets in sight"
-    browser.touch(((x, y), (x - 100, y)))
-    if seen(browser, "forecast-strip") != found:
-        return f"a swipe to the side leaves {seen(browser, 'forecast-strip')} packets in sight"
+    assert 0 < found < 700, f"two fingers leave {found} packets in sight"
+    browser.drag("touch", ((x, y), (x - 100, y)))
+    moved = seen(browser, "forecast-strip")
+    assert moved == found, f"a swipe to the side leaves {moved} packets in sight"
     browser.value("document.querySelector('#forecast-zoom button:nth-child(2)').click()")
-    return None if seen(browser, "forecast-strip") > found else "the button − does not zoom out"
+    assert seen(browser, "forecast-strip") > found, "the button − does not zoom out"
+    assert browser.value(texts) == before, "fingers changed the schedule or the losses"
 
 
 def tell_drag(browser, page, _):
     """A press and a short drag add no row; a longer one adds the row that was shown, and Z takes it back."""
-    browser.size(1280, 800)
     begin(browser, page, "forecast")
-    browser.value("document.getElementById('forecast-strip').scrollIntoView({block: 'center'})")
-    place, losses = browser.middle("forecast-strip"), "document.getElementById('script').value"
+    (x, y), losses = shown_middle(browser), "document.getElementById('script').value"
     before = browser.value(losses)
     for shift, more in ((0, 0), (4, 0), (60, 1)):
-        browser.drag(place, shift, 0.4)
+        browser.drag("mouse", ((x, y), (x + shift, y)), rest=400)
         found = browser.value(losses).removeprefix(before).count("drop,")
-        if found != more:
-            return f"a drag by {shift} adds {found} rows"
-    if "Z takes it back" not in text(browser, "forecast-change"):
-        return f"after a drag it says {text(browser, 'forecast-change')!r}"
+        assert found == more, f"a drag by {shift} adds {found} rows"
+    assert "Z takes it back" in text(browser, "forecast-change"), f"after a drag it says {text(browser, 'forecast-change')!r}"
     browser.press("z")
-    return None if browser.value(losses) == before else "Z does not take the row back"
+    assert browser.value(losses) == before, "Z does not take the row back"
 
 
-def is_told(browser, part, words):
-    """Waits for what a part says; gives what it says in its place, or None."""
-    return None if browser.wait(f"document.getElementById('{part}').textContent.includes('{words}')", 120) else f"it says {text(browser, part)!r}"
+def hear(browser, part, words):
+    """Waits until a part says these words."""
+    assert browser.wait(f"document.getElementById('{part}').textContent.includes({words!r})", 120), f"{part} says {text(browser, part)!r}"
 
 
 def pressed(browser, key):
@@ -165,76 +145,65 @@ def pressed(browser, key):
     time.sleep(0.1)
 
 
-def held_up(browser, page, view, chooser, bits, paths, words, keys):
-    """The fault of files that are opened in a view and keys on its strip, or that a task of the page takes more than 50 milliseconds; or None."""
+def hold_up(browser, page, view, chooser, bits, paths, words, keys):
+    """Opens files in a view and presses keys on its strip: no task of the page takes more than 50 milliseconds."""
     def opened():
         browser.choose(chooser, *paths)
-        return is_told(browser, f"{view}-sum", words)
+        hear(browser, f"{view}-sum", words)
 
     def take():
         begin(browser, page, view)
         give(browser, f"{view}-bits", bits)
         focus = lambda: browser.value(f"document.getElementById('{view}-strip').focus()")
-        return taken(browser, [opened, focus, *(lambda key=key: pressed(browser, key) for key in keys)], longest)
+        return [longest(it) for it in browser.tasks([opened, focus, *(lambda key=key: pressed(browser, key) for key in keys)])]
 
-    browser.size(1280, 800)
-    return measured(browser, take, 50, "its longest task takes {} milliseconds")
+    measure(browser, take, 50, "its longest task takes {} milliseconds")
 
 
 def tell_million(browser, page, files):
     """A store of a million packets: what is told of it, and no task of the page above 50 milliseconds."""
     keys = ("n", "+", "+", "+", "0", "End", "p", "PageUp")
-    fault = held_up(browser, page, "store", "store-file", "64", [files["million"]], "restored", keys)
+    hold_up(browser, page, "store", "store-file", "64", [files["million"]], "restored", keys)
     (arrived, written), told = files["million_told"], text(browser, "store-sum")
-    wanted = f"{written:,} of 1,000,000 packets restored; {arrived:,} arrived"
-    return fault or (None if told.startswith(wanted) else f"it says {told!r}")
+    assert told.startswith(f"{written:,} of 1,000,000 packets restored; {arrived:,} arrived"), f"it says {told!r}"
 
 
 def tell_fields(browser, page, files):
     """A table of 40 fields by 100,000 packets has no task above 50 milliseconds; eight curves and the values are in sight at 1280 by 800."""
     keys = ("+", "+", "0", "n", "End", "PageUp")
-    fault = held_up(browser, page, "fields", "recording-file", "320", [files["forty"], files["forty_fields"]], "40 fields", keys)
-    if fault:
-        return fault
+    hold_up(browser, page, "fields", "recording-file", "320", [files["forty"], files["forty_fields"]], "40 fields", keys)
     last = browser.value("document.querySelectorAll('#curves canvas')[7]?.getBoundingClientRect().bottom")
-    if not last or last > 800:
-        return f"the eighth curve ends at {last}"
+    assert last and last <= 800, f"the eighth curve ends at {last}"
     side = browser.value("(box => [box.left, box.top])(document.getElementById('fields-words').getBoundingClientRect())")
     right = browser.value("document.getElementById('curves').getBoundingClientRect().right")
-    return None if side[0] >= right and side[1] < 400 else f"the values begin at {side}, and the curves end at {right}"
+    assert side[0] >= right and side[1] < 400, f"the values begin at {side}, and the curves end at {right}"
 
 
 def tell_typing(browser, page, files):
     """Typing in a schedule of 10,000 rows takes the page at most 100 milliseconds for a key and the drawing after it."""
-    browser.size(1280, 800)
-    keys = ["Enter", *"7,9,1,r"]
-
     def take():
         begin(browser, page, "forecast")
         give(browser, "packets", "1000000")
         browser.choose("plan-file", files["rows"])
-        if not browser.wait(f"document.getElementById('plan-box').textContent.includes('of 10,001') && {IS_STILL}", 30):
-            return "the schedule was not opened"
+        assert browser.wait(f"document.getElementById('plan-box').textContent.includes('of 10,001') && {IS_STILL}", 30), "the schedule was not opened"
         browser.value("document.getElementById('plan').focus()")
-        return taken(browser, [lambda key=key: pressed(browser, key) for key in keys], longest_two)
+        return [longest_two(it) for it in browser.tasks([lambda key=key: pressed(browser, key) for key in ["Enter", *"7,9,1,r"]])]
 
-    fault = measured(browser, take, 100, "a key takes {} milliseconds")
-    return fault or is_told(browser, "forecast-sum", "of 1,000,000")
+    measure(browser, take, 100, "a key takes {} milliseconds")
+    hear(browser, "forecast-sum", "of 1,000,000")
 
 
 def tell_losses(browser, page, files):
     """The losses of a store in 11,264 stretches become a forecast without a task of the page above 50 milliseconds."""
-    browser.size(1280, 800)
-
     def take():
         begin(browser, page, "store")
         give(browser, "store-bits", "64")
         browser.choose("store-file", files["lossy"])
-        fault = is_told(browser, "store-sum", "restored")
-        return fault or taken(browser, [lambda: click(browser, "to-forecast"), lambda: is_told(browser, "forecast-sum", "of 123,904 packets")], longest)
+        hear(browser, "store-sum", "restored")
+        return [longest(it) for it in browser.tasks([lambda: click(browser, "to-forecast"), lambda: hear(browser, "forecast-sum", "of 123,904 packets")])]
 
-    fault = measured(browser, take, 50, "its longest task takes {} milliseconds")
-    return fault or is_told(browser, "script-box", "Lines 1 to 500 of 11,265")
+    measure(browser, take, 50, "its longest task takes {} milliseconds")
+    hear(browser, "script-box", "Lines 1 to 500 of 11,265")
 
 
 def tell_no_store(browser, page, files):
@@ -247,39 +216,32 @@ def tell_no_store(browser, page, files):
             browser.choose("store-file", files[name])
             browser.wait("!document.getElementById('store-refusal').hidden", 60)
             took, said = 1000 * (time.monotonic() - start), text(browser, "store-refusal")
-            return [took] if "The program says: store packet at byte" in said else f"{name}: it says {said!r}"
+            assert "The program says: store packet at byte" in said, f"{name}: it says {said!r}"
+            return [took]
 
-        fault = measured(browser, take, 1000, f"{name} are refused after {{}} milliseconds")
-        if fault:
-            return fault
-    return None
+        measure(browser, take, 1000, f"{name} are refused after {{}} milliseconds")
 
 
 def tell_cancel(browser, page, files):
     """What is read is told, and can be ended; the picture of before stays, and a file that is gone is said to be so."""
-    browser.size(1280, 800)
     begin(browser, page, "store")
     give(browser, "store-bits", "64")
     gone = shutil.copy(files["small"], browser.folder)
     browser.choose("store-file", gone)
-    if not browser.wait("document.getElementById('store-sum').textContent.includes('restored')", 60):
-        return f"it says {text(browser, 'store-sum')!r}"
+    hear(browser, "store-sum", "restored")
     before = text(browser, "store-sum")
     browser.choose("store-file", files["long"])
     told = browser.wait("/reading [0-9,]+ of 1,0[0-9]+ MB/.test(document.getElementById('store-busy').textContent) && document.getElementById('store-busy').textContent", 60)
     dim = browser.value("document.getElementById('store-picture').classList.contains('old')")
+    assert told and dim, f"it says {told or text(browser, 'store-busy')!r}; its picture is dim: {dim}"
     browser.value("document.querySelector('#store-busy button').click()")
-    if not told or not dim or not browser.wait("document.getElementById('store-busy').textContent.startsWith('Cancelled')", 10):
-        return f"it says {told or text(browser, 'store-busy')!r}; its picture is dim: {dim}"
-    if text(browser, "store-sum") != before:
-        return f"after that it says {text(browser, 'store-sum')!r}"
+    hear(browser, "store-busy", "Cancelled")
+    assert text(browser, "store-sum") == before, f"after that it says {text(browser, 'store-sum')!r}"
     browser.choose("store-file", gone)
     browser.wait(f"{IS_STILL} && document.getElementById('store-busy').hidden", 60)
     os.remove(gone)
     give(browser, "store-bits", "72")
-    if not browser.wait("/the file small.store can't be read/.test(document.getElementById('store-refusal').textContent)", 30):
-        return f"of a file that is gone it says {text(browser, 'store-refusal')!r}, {text(browser, 'store-sum')!r}"
-    return None
+    hear(browser, "store-refusal", "the file small.store can't be read")
 
 
 def tell_start(browser, page, files):
@@ -288,4 +250,4 @@ def tell_start(browser, page, files):
     pathlib.Path(files["broken"]).write_text(front + 'id="module">AAAA' + rest[rest.index("</script>"):], "utf-8")
     browser.open(f"file://{files['broken']}")
     said = browser.wait("document.getElementById('fault')?.hidden === false && document.getElementById('fault').textContent", 30)
-    return None if said and said.startswith("The program can't be run in this browser: ") else f"it says {said!r}"
+    assert said and said.startswith("The program can't be run in this browser: "), f"it says {said!r}"

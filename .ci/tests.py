@@ -27,8 +27,9 @@ class Rows(unittest.TextTestResult):
         self.passed += self.rows == 0
 
 
-def main():
-    found = unittest.TextTestRunner(sys.stdout, verbosity=2, resultclass=Rows).run(unittest.defaultTestLoader.discover(TESTS))
+def run(tests):
+    """Runs tests, tells what became of them, and ends."""
+    found = unittest.TextTestRunner(sys.stdout, verbosity=2, resultclass=Rows).run(tests)
     for test, why in found.skipped:
         print(f"skipped: {test}: {why}")
     print(f"{found.passed} passed, {len(found.failures) + len(found.errors)} failed, {len(found.skipped)} skipped")
@@ -36,4 +37,4 @@ def main():
 
 
 if __name__ == "__main__":
-    main()
+    run(unittest.defaultTestLoader.discover(TESTS))

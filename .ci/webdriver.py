@@ -21,8 +21,8 @@ FLAGS = ["--headless=new", "--no-sandbox", "--disable-gpu", "--disable-dev-shm-u
 COMMANDS = {"NewSession": ("POST", "/session"), "DeleteSession": ("DELETE", ""), "SetTimeouts": ("POST", "/timeouts"), "Navigate": ("POST", "/url"), "ExecuteAsyncScript": ("POST", "/execute/async"),
             "FindElement": ("POST", "/element"), "ElementSendKeys": ("POST", "/element/{id}/value"), "PerformActions": ("POST", "/actions"), "SetWindowRect": ("POST", "/window/rect"),
             "TakeScreenshot": ("GET", "/screenshot"), "Log": ("POST", "/se/log"), "Chromium": ("POST", "/goog/cdp/execute")}
-KEYS = {"Enter": "\ue006", "Shift": "\ue008", "Control": "\ue009", "Escape": "\ue00c", "PageUp": "\ue00e", "PageDown": "\ue00f", "End": "\ue010", "Home": "\ue011",
-        "ArrowLeft": "\ue012", "ArrowUp": "\ue013", "ArrowRight": "\ue014", "ArrowDown": "\ue015"}
+KEYS = {"Enter": "\ue006", "Shift": "\ue008", "Control": "\ue009", "PageUp": "\ue00e", "PageDown": "\ue00f", "End": "\ue010", "Home": "\ue011",
+        "ArrowRight": "\ue014"}
 SCRIPT = """const done = arguments[arguments.length - 1];
 (async () => (%s))().then((value) => done({value}), (fault) => done({fault: String(fault?.stack ?? fault)}));"""
 PREFS = {"browser.download.folderList": 2, "browser.download.alwaysOpenPanel": False, "network.proxy.type": 0, "datareporting.policy.dataSubmissionEnabled": False}
@@ -101,8 +101,6 @@ class Browser:
         """Begins a session."""
         self.session = self.ask("NewSession", capabilities={"alwaysMatch": wanted})["sessionId"]
         self.ask("SetTimeouts", script=LIMIT * 1000, pageLoad=LIMIT * 1000)
-        if self.name == "chromium":
-            self.ask("Log", type="performance")  # (what was traced of its beginning fills the room)
         self.size(1280, 1600)
 
     def end(self):
@@ -163,26 +161,22 @@ class Browser:
         self.ask("PerformActions", actions=[{"type": kind, "id": f"{kind}{more}{number}", "actions": steps, **({"parameters": {"pointerType": more}} if more else {})}
                                             for number, (kind, more, steps) in enumerate(sources)])
 
-    def press(self, key, held=None):
+    def press(self, key):
         """Presses a key."""
-        keys = [KEYS.get(it, it) for it in (held, key) if it]
-        self.act(("key", None, [*({"type": "keyDown", "value": it} for it in keys), *({"type": "keyUp", "value": it} for it in reversed(keys))]))
+        self.act(("key", None, [{"type": kind, "value": KEYS.get(key, key)} for kind in ("keyDown", "keyUp")]))
 
-    def touch(self, *ways):
-        """Moves as many fingers as there are ways over the page: each a pair of places (x, y), from one to the other."""
+    def drag(self, kind, *ways, rest=0):
+        """Moves the mouse, or as many fingers ("touch") as there are ways, pressed over the page: each a pair of places (x, y), from one to the
+        other, at which it rests for so many milliseconds."""
         move = lambda place, time: {"type": "pointerMove", "duration": time, "x": round(place[0]), "y": round(place[1])}
-        self.act(*(("pointer", "touch", [move(begin, 0), {"type": "pointerDown", "button": 0}, move(end, 250), {"type": "pointerUp", "button": 0}]) for begin, end in ways))
+        self.act(*(("pointer", kind, [move(begin, 0), {"type": "pointerDown", "button": 0}, move(end, 250), {"type": "pause", "duration": rest},
+                                      {"type": "pointerUp", "button": 0}]) for begin, end in ways))
         self.frame()
-
-    def drag(self, place, shift, seconds):
-        """Drags the mouse to the side."""
-        x, y = round(place["x"]), round(place["y"])
-        self.act(("pointer", "mouse", [{"type": "pointerMove", "duration": 0, "x": x, "y": y}, {"type": "pointerDown", "button": 0}, {"type": "pointerMove", "duration": 50, "x": x + shift, "y": y},
-                                       {"type": "pause", "duration": round(1000 * seconds)}, {"type": "pointerUp", "button": 0}]))
 
     def wheel(self, place, down, held=None):
         """Turns the wheel, with a key held or none."""
-        rest, scroll = {"type": "pause", "duration": 0}, {"type": "scroll", "x": round(place["x"]), "y": round(place["y"]), "deltaX": 0, "deltaY": down, "duration": 0, "origin": "viewport"}
+        x, y, rest = round(place[0]), round(place[1]), {"type": "pause", "duration": 0}
+        scroll = {"type": "scroll", "x": x, "y": y, "deltaX": 0, "deltaY": down, "duration": 0, "origin": "viewport"}
         keys = [("key", None, [{"type": "keyDown", "value": KEYS[held]}, rest, {"type": "keyUp", "value": KEYS[held]}])] if held else []
         self.act(*keys, ("wheel", None, [rest, scroll, rest]))
 
@@ -222,12 +216,13 @@ class Browser:
 
     def tasks(self, steps):
         """Does some steps after the page was opened, and gives for each the processor's time of each task of the page's thread meanwhile, in
-        milliseconds, if the browser tells it; or the fault of a step."""
+        milliseconds, if the browser tells it."""
+        if self.name == "chromium":
+            self.ask("Log", type="performance")  # (what was traced before fills the room)
         spans = []
         for step in steps:
-            begin, fault = time.monotonic(), step()
-            if fault:
-                return fault
+            begin = time.monotonic()
+            step()
             spans.append((begin * 1e6, time.monotonic() * 1e6))
         if self.name != "chromium":
             return [[] for _ in spans]
@@ -240,7 +235,7 @@ class Browser:
             pages.update((it["pid"], it["tid"]) for it in events if it["ph"] == "M" and it["args"].get("name") == "CrRendererMain")
             return any(it["ts"] > spans[-1][1] for it in events if (it["pid"], it["tid"]) in pages)
 
-        if not until(are_told):
+        if not until(are_told, LIMIT):
             raise RuntimeError("the browser does not tell its tasks")
         found = [it for it in events if it["name"] == "ThreadControllerImpl::RunTask" and it["ph"] == "X" and (it["pid"], it["tid"]) in pages]
         return [[it.get("tdur", 0) / 1000 for it in sorted(found, key=lambda it: it["ts"]) if begin <= it["ts"] <= end] for begin, end in spans]
@@ -250,8 +245,8 @@ class Browser:
         self.value("new Promise(done => requestAnimationFrame(() => requestAnimationFrame(() => done(1))))")
 
     def middle(self, part):
-        """Where the middle of the part of this id is."""
-        return self.value(f"(box => ({{x: box.x + box.width / 2, y: box.y + box.height / 2}}))(document.getElementById('{part}').getBoundingClientRect())")
+        """Where the middle of the part of this id is: x and y."""
+        return self.value(f"(box => [box.x + box.width / 2, box.y + box.height / 2])(document.getElementById('{part}').getBoundingClientRect())")
 
     def close(self):
         with contextlib.suppress(OSError, RuntimeError, ValueError):

@@ -111,7 +111,7 @@ class Documents(unittest.TestCase):
         for name, limit, before, after in (
                 ("library/pocket.h", places, "#define POCKET_MOST_BITS ", "u "), ("library/python/pocket/calls.py", places, "\nMOST_BITS = ", "\n"),
                 ("library/python/pocket/packets.py", str(int(apid) + 1), "IDLE, PERIOD, MOST_DATA = ", ","),
-                ("page/views/why_row.js", places, "Number(cells[1]) > ", ")"), ("page/views/why_row.js", apid, "Number(cells[0]) > ", ")")):
+                ("page/views/store.js", f"{int(places):,}", "from 1 to ", ", digits alone"), ("page/views/store.js", apid, "from 0 to ", ", digits alone")):
             with self.subTest(name, limit=limit):
                 self.assertIn(before + limit + after, text_of(name))
 

@@ -7,8 +7,7 @@ import { grouped, range_words } from './text.js';
 // The packet at which an open packet's trouble begins: the first one after the latest sure packet that arrives and is not sure.
 // `sure` is that latest sure packet, or -1; `lost` are the ranges of lost packets between the two.
 export function trouble_of(runs, at) {
-  let place = runs.place_of(at);
-  while (place >= 0 && runs.kind[place] !== SURE) place -= 1;
+  let place = runs.kind.lastIndexOf(SURE, runs.place_of(at));
   const sure = place < 0 ? -1 : runs.last(place), lost = [];
   for (place += 1; place < runs.size && runs.kind[place] === GONE; place += 1) lost.push([runs.first[place], runs.last(place)]);
   return { sure, head: runs.first[place], lost };
@@ -28,13 +27,11 @@ export function sure_words(runs) {
 
 // The row of a script that drops a packet, and its number: the last row that names it decides. Null if none does.
 function dropping_row(script, at) {
-  const rows = records_of(script);
-  for (let row = rows.length - 1; row >= 0; row -= 1) {
-    const [word, first, last, step] = rows[row].text.split(',');
-    const names = at >= Number(first) && at <= Number(last) && (at - Number(first)) % Number(step) === 0;
-    if (names) return word === 'drop' ? { number: row + 1, text: rows[row].text } : null;
-  }
-  return null;
+  const rows = records_of(script), row = rows.findLastIndex(({ text }) => {
+    const [, first, last, step] = text.split(',').map(Number);
+    return at >= first && at <= last && (at - first) % step === 0;
+  });
+  return rows[row]?.text.startsWith('drop') ? { number: row + 1, text: rows[row].text } : null;
 }
 
 export function forecast_words(runs, script, at) {

@@ -11,17 +11,12 @@ export function records_of(text) {
 
 function find_records(text) {
   const records = [];
-  let line = 0, start = 0, first = 0, is_quoted = false;
-  for (let at = 0; at <= text.length; at += 1) {
-    const letter = text[at], is_end = at === text.length || (!is_quoted && (letter === '\n' || letter === '\r'));
-    if (letter === '"') is_quoted = !is_quoted;
-    if (is_end) {
-      if (at > start) records.push({ text: text.slice(start, at), first, last: line });
-      start = at + 1;
-    }
-    if (letter === '\n' || (letter === '\r' && text[at + 1] !== '\n')) line += 1;
-    if (is_end) first = letter === '\r' && text[at + 1] === '\n' ? line + 1 : line;
-  }
+  let is_quoted = false;
+  text.split(/\r\n?|\n/).forEach((line, at) => {
+    if (is_quoted) Object.assign(records.at(-1), { text: `${records.at(-1).text}\n${line}`, last: at });
+    else if (line) records.push({ text: line, first: at, last: at });
+    if (line.split('"').length % 2 === 0) is_quoted = !is_quoted;
+  });
   return records;
 }
 

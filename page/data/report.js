@@ -15,7 +15,7 @@ export class Report {
     this.late = null;
   }
 
-  // Takes a row that is not the last; gives whether it is one.
+  // Takes a row of packets; gives whether it is one.
   take(first, last, kind, value) {
     const { runs } = this;
     if (!(kind > 0 && first >= runs.total && last >= first)) return false;
@@ -45,6 +45,14 @@ export class Report {
     runs.end = [arrived, written, repeats];
   }
 
+  // Takes the cells of a line; gives whether it is a line of a report.
+  take_line([first, last, cause, more]) {
+    if (first === 'end' && !this.runs.end) this.take_end(Number(last), Number(cause), Number(more));
+    else if (first === 'late' && this.runs.end) this.late = Number(last);
+    else return this.take(Number(first), Number(last), KINDS.get(cause), Number(more));
+    return true;
+  }
+
   told() {
     const { rows, counts, late } = this;
     return { rows, counts, late, end: this.runs.end, stretches: counts.reduce((sum, count) => sum + count.stretches, 0) };
@@ -58,17 +66,13 @@ export function read_report(text, written = null) {
   const lines = text.split('\n'), report = new Report();
   if (lines[0].trim() !== HEAD) return `This is no report of restore or late: its first line is not ${HEAD}.`;
   for (let row = 1; row < lines.length; row += 1) {
-    const cells = lines[row].trim().split(','), [first, last, cause, more] = cells;
-    if (first === 'end' && !report.runs.end) {
-      if (written !== null && Number(cause) !== written) return `The report is of another recording: it says that ${cause} packets were written, and the recording has ${written}.`;
-      report.take_end(Number(last), Number(cause), Number(more));
-    } else if (first === 'late' && report.runs.end) {
-      report.late = Number(last);
-    } else if (cells[0] && !report.take(Number(first), Number(last), KINDS.get(cause), Number(more))) {
-      return `Line ${row + 1} of the report is not a row of a report: ${lines[row].slice(0, 60)}`;
-    }
+    const cells = lines[row].trim().split(',');
+    if (cells[0] && !report.take_line(cells)) return `Line ${row + 1} of the report is not a row of a report: ${lines[row].slice(0, 60)}`;
   }
-  return report.runs.end ? report : 'The report has no last row (end): the store was not read to its end.';
+  const { end } = report.runs;
+  if (!end) return 'The report has no last row (end): the store was not read to its end.';
+  if (written === null || end[1] === written) return report;
+  return `The report is of another recording: it says that ${end[1]} packets were written, and the recording has ${written}.`;
 }
 
 // Reads a report of `multi`: a report for each APID, and how many packets had another shape.
@@ -76,10 +80,9 @@ export function read_streams(text, apids) {
   const reports = new Map(apids.map((apid) => [apid, new Report()]));
   let shape = 0;
   for (const line of text.split('\n').slice(1)) {
-    const [apid, first, last, cause, more] = line.split(',');
-    if (apid === 'shape') shape = Number(first);
-    else if (first === 'end') reports.get(apid).take_end(Number(last), Number(cause), Number(more));
-    else if (apid) reports.get(apid).take(Number(first), Number(last), KINDS.get(cause), Number(more));
+    const [apid, ...cells] = line.split(',');
+    if (apid === 'shape') shape = Number(cells[0]);
+    else if (apid) reports.get(apid).take_line(cells);
   }
   return { reports, shape };
 }

@@ -1,6 +1,6 @@
 // Runs of packets that have one state, out of a forecast, a listing or a report. A million packets are a few lists of numbers.
 
-import { Reader, with_room } from './text.js';
+import { Reader, last_place } from './text.js';
 
 // What can become of a packet, from the best to the worst: its word, letter, fill, the colour of its letter, and what it means.
 // Letters and colours are those of pictures/draw.py.
@@ -20,7 +20,9 @@ export const FINDINGS = [
 export const [WRITTEN, LOST, GAP, UNSYNCED, EARLY, WRONG] = [0, 1, 2, 3, 4, 5];
 export const [SURE, OPEN, GONE] = [0, 1, 2];
 export const NO_LEVEL = 255;
+const FALL = 8191; // a gap of more packets than that is half a period of the sequence counts
 const BLOCK = 64; // so many runs have one sum of what is before them
+const with_room = (list, room) => new list.constructor(list.buffer.transfer(room * list.BYTES_PER_ELEMENT));
 
 export class Runs {
   constructor(kinds) {
@@ -75,13 +77,7 @@ export class Runs {
 
   // The place of the run that has the packet of this number.
   place_of(number) {
-    let low = 0, high = this.size - 1;
-    while (low < high) {
-      const middle = (low + high + 1) >> 1;
-      if (this.first[middle] <= number) low = middle;
-      else high = middle - 1;
-    }
-    return low;
+    return last_place(this.size, (place) => this.first[place] <= number);
   }
 
   kind_at(number) {
@@ -156,16 +152,18 @@ function read_arrival(reader, runs, number, line) {
   runs.half[place] = Number(is_half_known(bytes, reader, kind));
 }
 
-// The runs of a listing: a run for each arrival and for each range of lost packets.
+// The runs of a listing: a run for each arrival and for each range of lost packets. `falls` tells how often the sequence counts fall back:
+// packets came in another order than they were sent, and of two one after the other the second one was taken for one far on.
 export function read_listing(bytes) {
-  const runs = new Runs(FINDINGS), reader = new Reader(bytes);
-  runs.arrivals = 0;
+  const runs = Object.assign(new Runs(FINDINGS), { arrivals: 0, falls: 0 }), reader = new Reader(bytes);
   while (reader.is_digit()) {
     const line = reader.at, number = reader.number();
     const is_range = bytes[reader.at] === 45;
     reader.at += 1;
     if (is_range) {
-      runs.add(number, reader.number(), LOST, line);
+      const last = reader.number();
+      if (runs.arrivals && last - number >= FALL) runs.falls += 1;
+      runs.add(number, last, LOST, line);
     } else {
       read_arrival(reader, runs, number, line);
       runs.arrivals += 1;

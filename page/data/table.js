@@ -2,7 +2,7 @@
 
 import { WRITTEN } from './runs.js';
 import { fields_of } from './records.js';
-import { Reader, bytes_of, text_of } from './text.js';
+import { Reader, last_place } from './text.js';
 
 export const [WITHIN, BELOW, ABOVE] = [0, 1, 2];
 
@@ -28,39 +28,15 @@ export function read_table(bytes) {
 
 const new_field = (name, count) => ({ name, values: new Float64Array(count), out: new Uint8Array(count), outside: 0, limit: null, low: 0, high: 0 });
 
-// Whether a name stands in the bytes at this place, before a comma.
-function is_name_at(bytes, at, name) {
-  for (let place = 0; place < name.length; place += 1) {
-    if (bytes[at + place] !== name[place]) return false;
-  }
-  return bytes[at + name.length] === 44;
-}
-
-// Whether the line of a report is of a value below the low limit. Numbers that are too near to tell are compared exactly.
-function is_below(reader) {
-  const start = reader.at, value = reader.signed();
-  reader.at += 1;
-  const low = reader.signed();
-  if (value !== low) return value < low;
-  const [exact, bound] = text_of(reader.bytes.subarray(start, reader.at)).split(',').map(BigInt);
-  return exact < bound;
-}
-
-// Marks in the table what its report lists out of the limits; gives which packets have such a value.
+// Marks in the table what its report lists out of the limits; gives which packets have such a value. Values are compared exactly.
 export function mark_outside(table, bytes) {
-  const reader = new Reader(bytes), any = new Uint8Array(table.count), { fields } = table;
-  const names = fields.map((field) => bytes_of(field.name));
-  let place = 0;
+  const reader = new Reader(bytes), any = new Uint8Array(table.count), fields = new Map(table.fields.map((field) => [field.name, field]));
   reader.next_line();
   while (reader.is_digit()) {
-    const t = reader.number();
-    reader.at += 1;
-    while (!is_name_at(bytes, reader.at, names[place])) place = (place + 1) % names.length;
-    reader.at += names[place].length + 1;
-    fields[place].out[t] = is_below(reader) ? BELOW : ABOVE;
-    fields[place].outside += 1;
+    const [t, name, value, low] = reader.line().split(','), field = fields.get(name);
+    field.out[t] = BigInt(value) < BigInt(low) ? BELOW : ABOVE;
+    field.outside += 1;
     any[t] = 1;
-    reader.next_line();
   }
   return any;
 }
@@ -75,9 +51,7 @@ export function mark_limits(table, text) {
 
 // The values of a packet of the table as they stand there.
 export function cells_of(table, t) {
-  const reader = new Reader(table.bytes);
-  reader.at = table.line[t];
-  return reader.line().split(',').slice(1);
+  return new Reader(table.bytes, table.line[t]).line().split(',').slice(1);
 }
 
 // Between the numbers of packets and their places in a recording: of some runs those that are written are there, one after the other.
@@ -105,13 +79,8 @@ export class Places {
   }
 
   number_of(place) {
-    let low = 0, high = this.runs.size - 1;
-    while (low < high) {
-      const middle = (low + high) >> 1;
-      if (this.before[middle + 1] > place) high = middle;
-      else low = middle + 1;
-    }
-    return this.runs.first[low] + place - this.before[low];
+    const run = last_place(this.runs.size, (one) => this.before[one] <= place);
+    return this.runs.first[run] + place - this.before[run];
   }
 }
 

@@ -36,25 +36,25 @@ export class Reader {
   }
 
   next_line() {
-    this.at = this.end_of_line() + 1;
-  }
-
-  end_of_line() {
     const end = this.bytes.indexOf(10, this.at);
-    return end < 0 ? this.bytes.length : end;
+    this.at = (end < 0 ? this.bytes.length : end) + 1;
   }
 
   // This line as a text; goes to the one after it.
   line() {
-    const end = this.end_of_line();
-    const text = text_of(this.bytes.subarray(this.at, end));
-    this.at = end + 1;
-    return text;
+    const start = this.at;
+    this.next_line();
+    return text_of(this.bytes.subarray(start, this.at - 1));
   }
 }
 
-export function with_room(list, room) {
-  const more = new list.constructor(room);
-  more.set(list);
-  return more;
+// The last of so many places at which something holds, if it holds at all places before it too; or 0.
+export function last_place(count, holds) {
+  let low = 0, high = count - 1;
+  while (low < high) {
+    const middle = (low + high + 1) >> 1;
+    if (holds(middle)) low = middle;
+    else high = middle - 1;
+  }
+  return low;
 }

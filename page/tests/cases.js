@@ -3,15 +3,13 @@
 import { check, desk, test } from './tools.js';
 import { part } from '../views/parts.js';
 
-const from_base64 = (text) => Uint8Array.from(atob(text), (letter) => letter.charCodeAt(0));
-
 for (const { name, words, inputs, status, text, outputs } of JSON.parse(part('cases').textContent)) test(name, async () => {
-  const given = Object.fromEntries(Object.entries(inputs).map(([one, bytes]) => [one, from_base64(bytes)]));
+  const given = Object.fromEntries(Object.entries(inputs).map(([one, bytes]) => [one, Uint8Array.fromBase64(bytes)]));
   const done = await desk.ask('run', { words, inputs: given });
   check('the status', done.status, status);
   check('the text', done.text, text);
   for (const [one, wanted] of Object.entries(outputs)) {
-    const found = done.outputs[one], bytes = from_base64(wanted);
+    const found = done.outputs[one], bytes = Uint8Array.fromBase64(wanted);
     check(`the output ${one}`, found?.length === bytes.length && found.every((byte, place) => byte === bytes[place]), true);
   }
 });

@@ -1,6 +1,6 @@
 // Tests of a recording's numbers.
 
-import { check, press, says, shown, test, type } from './tools.js';
+import { after, check, press, says, test, texts_of, type } from './tools.js';
 import { part } from '../views/parts.js';
 import { read_units, ticks_between, time_words, value_words } from '../views/scale.js';
 import { show_view, views } from '../views/tabs.js';
@@ -8,14 +8,14 @@ import { EXAMPLE_FIELDS } from '../data/example.js';
 import { columns_of } from '../data/table.js';
 
 const sum = () => part('fields-sum').textContent;
-const values = () => [...part('fields-words').querySelectorAll('tbody tr')].map((row) => [...row.children].map((cell) => cell.textContent).join(' ').trim()).join('; ');
+const rows = (id) => [...part(id).querySelectorAll('tbody tr')].map((row) => [...row.children].map((cell) => cell.textContent).join(' ').trim());
+const values = () => rows('fields-words').join('; ');
 
 const open = (name, recording, bits) => views.fields.open(new File([recording], name), bits, null);
 
 // Shows the example, and gives the bytes of its recording and of its report.
 async function example() {
-  part('fields-example').click();
-  await shown(views.fields);
+  await after(views.fields, () => part('fields-example').click());
   return Promise.all(views.fields.judged.files.map((file) => file.arrayBuffer()));
 }
 
@@ -30,12 +30,10 @@ test('fields', async () => {
   check('the curves', names.join(' '), 'temperature_C battery_mV mode current_mA wheel_rpm');
   views.fields.span.go(52);
   check('a curve', curves[1].getAttribute('aria-valuetext'), 'packet 52: battery_mV is 3320, above its limit 3300');
-  const stretches = [...part('fields-stretches').querySelectorAll('tbody tr')].map((row) => [...row.children].map((cell) => cell.textContent).join(' '));
-  check('a stretch', stretches.includes('battery_mV 44 55 3320, above 3300'), true);
-  check('all curves at once', [...document.querySelectorAll('#curves .now')].map((it) => it.textContent.split(',')[0]).join(' '), '33 3320 1 249 -5084');
-  const box = part('fields-list').querySelectorAll('input');
-  [...box].filter((it) => it.checked && it.parentElement.textContent.includes('battery')).forEach((it) => it.click());
-  const drawn_rows = [...part('fields-stretches').querySelectorAll('tbody th')].map((it) => it.textContent);
+  check('a stretch', rows('fields-stretches').includes('battery_mV 44 55 3320, above 3300'), true);
+  check('all curves at once', texts_of('#curves .now').map((it) => it.split(',')[0]).join(' '), '33 3320 1 249 -5084');
+  [...part('fields-list').children].find((it) => it.textContent.includes('battery')).querySelector('input').click();
+  const drawn_rows = texts_of('#fields-stretches tbody th');
   check('stretches of what is drawn', `${new Set(drawn_rows).size} ${drawn_rows[0]}`, '1 temperature_C');
   press('fields-strip', 'Home', ...Array(40).fill('n'));
   check('N among what is drawn', values(), /temperature_C -?\d+ -10 to 40 (below|above)/);
@@ -67,8 +65,7 @@ test('files that are dropped', async () => {
   await view.take([new File(['x'], 'x.csv')], 'report');
   check('no report', part('fields-refusal').textContent, /^This is no report/);
   check('the recording stays', part('recording-name').textContent, /^restored\.rec:/);
-  part('drop-report').click();
-  await shown(view);
+  await after(view, () => part('drop-report').click());
   await view.take([new File([recording], 'slow.rec')]);
   await view.take([new File([new Uint8Array(320e6)], 'zeros')]);
   check('too many values', part('fields-refusal').textContent, /^the recording has 200,000,000 values, more than this page draws \(20,000,000\): th/);
@@ -90,7 +87,7 @@ test('a million values', async () => {
 test('fields that are chosen', async () => {
   views.fields.rows.text = `${Array.from({ length: 12 }, (_, place) => `field,${4 * place},4,u,f${place}\n`).join('')}limit,f9,0,3\n`;
   await open('twelve fields', new Uint8Array(60).fill(0x77), '48');
-  const drawn = () => [...document.querySelectorAll('#curves b')].map((it) => it.textContent).join(' ');
+  const drawn = () => texts_of('#curves b').join(' ');
   check('at first', drawn(), 'f9 f0 f1 f2 f3 f4 f5 f6');
   type('fields-search', '11');
   check('what is found', part('fields-list').textContent.trim(), 'f11');
@@ -111,14 +108,11 @@ test('units and times', async () => {
   type('units', 'battery_mV,V,nought\n');
   check('a wrong row', part('units-text-refusal').textContent, /^Row 1 is not a field with its unit/);
   type('units', '');
-  type('time-kind', 'step');
-  type('time-start', '2026-03-01T00:00:00');
-  type('time-step', '60');
-  check('a time', part('fields-words').querySelector('.state').textContent, 'Packet 52, 2026-03-01 00:52:00, at place 50 of the recording.');
-  type('time-start', '');
-  type('time-kind', 'field');
-  type('time-field', 'mode');
-  check('a time of a field', part('fields-words').querySelector('.state').textContent, 'Packet 52, 0:00:01, at place 50 of the recording.');
+  const axis = (texts) => Object.entries(texts).forEach(([name, text]) => type(`time-${name}`, text));
+  axis({ kind: 'step', start: '2026-03-01T00:00:00', step: '60' });
+  check('a time', texts_of('#fields-words .state').join(), 'Packet 52, 2026-03-01 00:52:00, at place 50 of the recording.');
+  axis({ start: '', kind: 'field', field: 'mode' });
+  check('a time of a field', texts_of('#fields-words .state').join(), 'Packet 52, 0:00:01, at place 50 of the recording.');
   type('time-kind', 'number');
   check('ticks', ticks_between(-14, 42, 4).join(' '), '0 20 40');
   check('a clock', time_words(3725.5, null), '1:02:05.500');

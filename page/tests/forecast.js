@@ -1,6 +1,6 @@
 // Tests of the forecast, before a pass.
 
-import { check, point, press, put, says, shown, test, type, until, wait } from './tools.js';
+import { after, check, point, press, put, says, shown, test, type, until, wait } from './tools.js';
 import { address_of, remembered } from '../views/address.js';
 import { part } from '../views/parts.js';
 import { strip_parts } from '../views/strip.js';
@@ -31,25 +31,23 @@ test('the words of ten packets', async () => {
   check('the mark of the example', part('forecast-example').hidden, false);
 });
 
+const in_sight = () => `${views.forecast.span.first} ${views.forecast.span.width}`, losses = () => part('script').value;
+const KEYS = [
+  ['0 Home n n n', () => says('forecast-strip'), /^packet 190 is lost/],
+  ['n PageDown ArrowRight End p', () => says('forecast-strip'), /^packet 534 is open/],
+  ['+ '.repeat(22).trim(), in_sight, '534 1'],
+  ['0 -', in_sight, '0 1000'],
+  ['Home l', () => losses() + part('forecast-change').textContent, `${EXAMPLE.script}L once more, or Enter, adds drop,0,0,1; Escape leaves it.`],
+  ['l', losses, `${EXAMPLE.script}drop,0,0,1\n`],
+  ['z', losses, EXAMPLE.script],
+  ['w Escape Enter', () => part('plan').value, EXAMPLE.plan],
+];
 test('keys on the strip', async () => {
   await put(EXAMPLE);
-  press('forecast-strip', '0', 'Home', 'n', 'n', 'n');
-  check('after Home N N N', says('forecast-strip'), /^packet 190 is lost/);
-  press('forecast-strip', 'n', 'PageDown', 'ArrowRight', 'End', 'p');
-  check('after End P', says('forecast-strip'), /^packet 534 is open/);
-  press('forecast-strip', '+', '+', ...Array(20).fill('+'));
-  check('what is seen', `${views.forecast.span.first} ${views.forecast.span.width}`, '534 1');
-  press('forecast-strip', '0', '-');
-  check('what is seen of all', views.forecast.span.width, 1000);
-  press('forecast-strip', 'Home', 'l');
-  check('the losses after one L', part('script').value, EXAMPLE.script);
-  check('the row that is shown', part('forecast-change').textContent, 'L once more, or Enter, adds drop,0,0,1; Escape leaves it.');
-  press('forecast-strip', 'l');
-  check('the row that a key makes', part('script').value, `${EXAMPLE.script}drop,0,0,1\n`);
-  press('forecast-strip', 'z');
-  check('what Z took back', part('script').value, EXAMPLE.script);
-  press('forecast-strip', 'w', 'Escape', 'Enter');
-  check('what Escape left', part('plan').value, EXAMPLE.plan);
+  for (const [keys, found, wanted] of KEYS) {
+    press('forecast-strip', ...keys.split(' '));
+    check(`after ${keys}`, found(), wanted);
+  }
   await shown(views.forecast);
 });
 
@@ -133,8 +131,7 @@ const REFUSED = [
 for (const [id, text, line, words, program] of REFUSED) test(`a refused row of ${id}`, async () => {
   await put(EXAMPLE);
   document.activeElement.blur();
-  type(id, text);
-  await shown(views.forecast);
+  await after(views.forecast, () => type(id, text));
   const note = part(`${id}-text-refusal`), told = note.textContent;
   check('the line that is marked', part(`${id}-box`).querySelector('.gutter .wrong')?.textContent, `✗ ${line}`);
   check('the text area', part(id).getAttribute('aria-invalid'), 'true');
@@ -151,7 +148,7 @@ test('a text of many lines', async () => {
   const text = Array.from({ length: 2500 }, (_, t) => `drop,${2 * t},${2 * t},1\n`).join(''), { script } = views.forecast, seen = () => part('script-box').querySelector('.hint [role=status]').textContent;
   await put({ ...EXAMPLE, packets: '6000', script: text });
   check('what is seen', seen(), 'Lines 1 to 500 of 2,501');
-  [...part('script-box').querySelectorAll('button')].find((it) => it.textContent === 'Later lines').click();
+  part('script-box').querySelector('[aria-label^=Later]').click();
   check('the second page', `${seen()} ${part('script').value.slice(0, 16)}`, 'Lines 501 to 1,000 of 2,501 drop,1000,1000,1');
   type('script', part('script').value.replace('drop,1000,1000,1\n', ''));
   check('all of it after a change', script.text === text.replace('drop,1000,1000,1\n', ''), true);
@@ -168,13 +165,11 @@ test('a text of many lines', async () => {
 
 test('refused numbers', async () => {
   await put(EXAMPLE);
-  type('packets', '01');
-  await shown(views.forecast);
+  await after(views.forecast, () => type('packets', '01'));
   check('packets', part('packets-refusal').textContent, 'A number from 1 to 1,000,000, digits alone.');
   check('the sum', part('forecast-sum').textContent, 'No forecast: a number is refused.');
   type('packets', '1000');
-  type('robust', '8');
-  await shown(views.forecast);
+  await after(views.forecast, () => type('robust', '8'));
   check('robust', part('robust-refusal').textContent, 'A number from 0 to 7.');
   check('packets, mended', part('packets-refusal').hidden, true);
 });

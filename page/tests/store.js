@@ -1,6 +1,6 @@
 // Tests of a store, after a pass.
 
-import { check, press, ran, says, shown, store_of, test, type } from './tools.js';
+import { after, check, press, ran, says, shown, store_of, test, texts_of, type } from './tools.js';
 import { hex_words, to_hex } from '../views/bits.js';
 import { kept_bits } from '../views/memory.js';
 import { part } from '../views/parts.js';
@@ -19,14 +19,14 @@ function recording_of(count) {
   return bytes;
 }
 
-const open = (name, store, bits, apid) => views.store.open([new File([store], name)], bits, apid);
-
-// The bytes of the example, which is shown then.
-async function example() {
+// Shows a store of this name, or the example if there is none; gives its bytes.
+async function open(name, store = null, bits = '64', apid = '100') {
   show_view('store');
-  await views.store.open([], '64', '100');
+  await views.store.open(store ? [new File([store], name)] : [], bits, apid);
   return new Uint8Array(await views.store.judged.files[0].arrayBuffer());
 }
+
+const example = () => open('The example');
 
 test('the first wrong bit', async () => {
   const store = await example(), first = to_hex(store.subarray(6, packet_length(store, 0)));
@@ -51,8 +51,7 @@ test('the first wrong bit', async () => {
 // The losses of a store go to a forecast, which asks for its schedule and says that it is missing.
 test('its losses in a forecast', async () => {
   await example();
-  part('to-forecast').click();
-  await shown(views.forecast);
+  await after(views.forecast, () => part('to-forecast').click());
   check('its losses and what is damaged', part('script').value, 'drop,23,24,1\ndrop,61,66,1\ndrop,101,101,1\ndrop,130,133,1\ndrop,159,159,1\n');
   check('its packets', part('packets').value, '180');
   check('its schedule', part('plan').value, '');
@@ -67,12 +66,11 @@ test('its losses in a forecast', async () => {
 
 test('a cut store', async () => {
   const store = await example();
-  await open('a cut store', store.slice(0, store.length - 3), '64', '100');
+  await open('a cut store', store.slice(0, store.length - 3));
   check('what is drawn', views.store.strip.runs, null);
   check('the refusal', part('store-refusal').textContent, /^This store is refused: the store ends inside the packet .* The program says: store packet at byte [0-9]+ is cut/);
   check('the strip', says('store-strip'), /^no picture: store packet at byte/);
-  part('store-refusal').querySelector('button').click();
-  await shown(views.store);
+  await after(views.store, () => part('store-refusal').querySelector('button').click());
   check('what is before it', sum(), /^165 of 179 packets restored/);
 });
 
@@ -84,8 +82,7 @@ function in_order(store, order) {
 
 // A store whose packets come in the opposite order: each is taken for one 16,383 further on. What is kept of it stays small.
 test('a store in disorder', async () => {
-  show_view('store');
-  await open('a store in disorder', in_order(await store_of(recording_of(1000), 100), (places) => places.reverse()), '64', '100');
+  await open('a store in disorder', in_order(await store_of(recording_of(1000), 100), (places) => places.reverse()));
   const { runs, listing } = views.store.shown, kept = [listing, ...Object.values(runs)].reduce((bytes, it) => bytes + (it?.byteLength ?? 0), 0);
   check('the runs', runs.size, 2000);
   check('the packets', runs.total, 999 * 16383 + 1000);
@@ -95,13 +92,11 @@ test('a store in disorder', async () => {
 
 // After `late` all that is told is of `late`, by its window; back to the order of arrival is a button.
 test('a store put in order', async () => {
-  show_view('store');
   const swap = (places) => places.map((_, place) => places[place ^ 1] ?? places[place]);
-  await open('a store with late packets', in_order(await store_of(recording_of(200), 100, 'drop,30,31,1\n'), swap), '64', '100');
+  await open('a store with late packets', in_order(await store_of(recording_of(200), 100, 'drop,30,31,1\n'), swap));
   const before = sum();
   type('store-window', '8');
-  part('use-late').click();
-  await shown(views.store);
+  await after(views.store, () => part('use-late').click());
   check('the sum', sum(), '198 of 200 packets restored; 198 arrived, put in order by late with a window of 8.');
   check('the legend', part('store-legend').textContent, '198 written restoredL2 lost did not arrive');
   check('the warning', part('store-warning').hidden, true);
@@ -111,23 +106,19 @@ test('a store put in order', async () => {
   check('its content', part('store-words').textContent.includes(to_hex(recording_of(8).subarray(56))), true);
   views.store.span.go(30);
   check('a lost one', says('store-strip'), 'packet 30 is lost: it did not arrive, as packets 30 to 31');
-  check('the last rows', [...part('store-report').querySelectorAll('.end')].map((row) => row.textContent).join('|'), 'end198 arrived198 written0 repeats|late0 too late');
-  type('store-window', '0');
-  await shown(views.store);
+  check('the last rows', texts_of('#store-report .end').join('|'), 'end198 arrived198 written0 repeats|late0 too late');
+  await after(views.store, () => type('store-window', '0'));
   check('a narrow window', part('store-warning').textContent, /came too late for a window of 0/);
-  part('use-restore').click();
-  await shown(views.store);
+  await after(views.store, () => part('use-restore').click());
   check('the order of arrival', sum(), before);
 });
 
 // All APIDs of a store: a strip for each whose bits are given and remembered; one is opened by a click.
 test('all APIDs of a store', async () => {
-  const one = await store_of(recording_of(50), 300, 'drop,3,4,1\n'), other = await store_of(recording_of(60), 301), store = new Uint8Array(one.length + other.length);
-  store.set(one);
-  store.set(other, one.length);
+  const store = Uint8Array.of(...await store_of(recording_of(50), 300, 'drop,3,4,1\n'), ...await store_of(recording_of(60), 301));
   kept_bits.clear();
   show_view('streams');
-  const view = views.streams, input = (apid) => view.inputs.get(apid), told = () => [...part('streams-strips').querySelectorAll('.sum')].map((it) => it.textContent);
+  const view = views.streams, input = (apid) => view.inputs.get(apid), told = () => texts_of('#streams-strips .sum');
   await view.take([new File([store], 'two')]);
   check('before their bits are given', part('streams-sum').textContent, 'Give the bits of an APID\'s packets.');
   input('300').value = '64';
@@ -149,15 +140,13 @@ test('all APIDs of a store', async () => {
   check('zeros', part('streams-refusal').textContent, /^This is no store: it begins with a thousand packets/);
   await view.take([new File([store], 'two again')]);
   check('the bits that are remembered', `${input('300').value} ${told().length}`, '64 2');
-  part('streams-strips').querySelector('button').click();
-  await shown(views.store);
+  await after(views.store, () => part('streams-strips').querySelector('button').click());
   check('the one that is opened', `${part('store-apid').value} ${sum()}`, '300 48 of 50 packets restored; 48 arrived.');
 });
 
 // With other bits than the sender's nearly all is wrong and unsynced, and the page says so. Neighbours in the report are one row.
 test('other bits than the sender\'s', async () => {
-  show_view('store');
-  await open('other bits', await store_of(recording_of(400), 100), '72', '100');
+  await open('other bits', await store_of(recording_of(400), 100), '72');
   const rows = part('store-report').querySelectorAll('tbody tr').length;
   check('what it says of the bits', part('store-warning').textContent, /the bits of a packet, or the APID, may not be the sender's/);
   check('few rows for 400 packets', rows > 0 && rows < 100, true);
@@ -166,11 +155,8 @@ test('other bits than the sender\'s', async () => {
 
 // A store may begin with many packets of another APID that have secondary headers; their counts tell it from bytes that are no store.
 test('a store that begins with other packets', async () => {
-  const front = new Uint8Array(7 * 1500), store = await store_of(recording_of(50), 100), whole = new Uint8Array(front.length + store.length);
-  for (let number = 0; number < 1500; number += 1) front.set([0x08, 5, 0xc0 | (number >> 8), number & 255, 0, 0, 0], 7 * number);
-  whole.set(front);
-  whole.set(store, front.length);
-  await open('a store behind others', whole, '64', '100');
+  const front = Array.from({ length: 1500 }, (_, number) => [0x08, 5, 0xc0 | (number >> 8), number & 255, 0, 0, 0]);
+  await open('a store behind others', Uint8Array.of(...front.flat(), ...await store_of(recording_of(50), 100)));
   check('what is restored', sum(), '50 of 50 packets restored; 50 arrived.');
 });
 
@@ -189,12 +175,11 @@ test('shares of a unit', () => {
 
 // A first wrong bit that comes late is in sight at once, in a box that has more rows than it shows.
 test('a late wrong bit', async () => {
-  show_view('store');
   const { store } = await ran('compress in=r out=store bits=4096 apid=100 robust=2 plan=p', { r: crypto.getRandomValues(new Uint8Array(1536)), p: bytes_of('') });
   const at = arrivals_of(store, 100)[0], size = packet_length(store, at), longer = new Uint8Array(size + 9);
   longer.set(store.subarray(at, at + size));
   new DataView(longer.buffer).setUint16(4, size + 9 - 7);
-  await open('a long packet', longer, '4096', '100');
+  await open('a long packet', longer, '4096');
   await views.store.details.done;
   const bit = part('store-words').querySelector('.first-wrong'), box = bit.closest('.bits').getBoundingClientRect(), place = bit.getBoundingClientRect();
   const is_seen = place.top >= box.top && place.bottom <= box.bottom && place.left >= box.left && place.right <= box.right;

@@ -45,9 +45,9 @@ export async function store_of(recording, apid, script = '') {
   return (await ran(`play in=out out=played report=told script=s apid=${apid}`, { ...given, out })).played;
 }
 
-// Waits until `holds` does, at most so many seconds.
-export async function until(holds, seconds = SLOW) {
-  const end = Date.now() + 1000 * seconds;
+// Waits until `holds` does, for a while at most.
+export async function until(holds) {
+  const end = Date.now() + 1000 * SLOW;
   while (!holds()) {
     if (Date.now() > end) return false;
     await wait(20);
@@ -61,10 +61,7 @@ export async function shown(view) {
 }
 
 // Puts the texts of a forecast, and waits until it is shown.
-export async function put(texts) {
-  views.forecast.put(texts);
-  await shown(views.forecast);
-}
+export const put = (texts) => after(views.forecast, () => views.forecast.put(texts));
 
 // What a view says of the packet that its strip has chosen: the strip in a few words, and the view in full, but for the values of its fields.
 export function says(id) {
@@ -82,6 +79,15 @@ export function type(id, text) {
   part(id).value = text;
   part(id).dispatchEvent(new Event('input', { bubbles: true }));
 }
+
+// Does something, and waits until a view shows what is asked for then.
+export async function after(view, act) {
+  act();
+  await shown(view);
+}
+
+// The texts of all parts that a selector finds.
+export const texts_of = (selector) => Array.from(document.querySelectorAll(selector), (it) => it.textContent);
 
 // What a pointer does at a share of a strip's width.
 export function point(id, kind, share, more = {}) {

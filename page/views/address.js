@@ -13,10 +13,8 @@ export function remembered(address) {
   return Object.keys(found).length ? { packets: '1000', robust: '2', plan: '', script: '', ...found } : null;
 }
 
-let latest = null;
-
-const remembering = new Later(() => {
-  const address = latest.plan.length + latest.script.length > MOST_LETTERS ? '#' : address_of(latest);
+const remembering = new Later((asked) => {
+  const address = asked.plan.length + asked.script.length > MOST_LETTERS ? '#' : address_of(asked);
   if (location.hash === address || location.hash === '#tests') return;
   try {
     history.replaceState(null, '', address);
@@ -26,7 +24,4 @@ const remembering = new Later(() => {
 }, 300);
 
 // Puts the forecast's texts into the page's address after a while.
-export function remember(asked) {
-  latest = asked;
-  remembering.start();
-}
+export const remember = (asked) => remembering.start(asked);

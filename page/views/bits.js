@@ -8,12 +8,6 @@ const MOST_BYTES = 64;
 const ROWS_AT_ONCE = 64;
 const MOST_ROWS = 1024; // if all are asked for
 
-export function from_hex(text) {
-  const bytes = new Uint8Array(text.length >> 1);
-  for (let place = 0; place < bytes.length; place += 1) bytes[place] = parseInt(text.substr(2 * place, 2), 16);
-  return bytes;
-}
-
 export const to_hex = (bytes) => Array.from(bytes, (byte) => byte.toString(16).padStart(2, '0')).join(' ');
 
 // Bytes as hexadecimal digits in pairs, of many the beginning and how many there are.
@@ -22,7 +16,7 @@ export function hex_words(bytes) {
   return bytes.length > MOST_BYTES ? `${shown} .. (${grouped(bytes.length)} bytes)` : shown;
 }
 
-const bit_at = (bytes, place) => (bytes[place >> 3] >> (7 - (place & 7))) & 1;
+export const bit_at = (bytes, place) => (bytes[place >> 3] >> (7 - (place & 7))) & 1;
 
 // The places at which a vector has a one, in words.
 export function ones_words(bytes, most = 12) {
@@ -45,7 +39,7 @@ function bit_row(bytes, from, bits, kind_of) {
 
 // Bytes with their bits, in rows of eight bytes; `after_row` gives what stands below the row of a byte. If there are many rows, a
 // button gives the rest; the row of the bit `wanted` is among those at once.
-export function bit_table(bytes, bits, kind_of, wanted = 0, after_row = () => '') {
+export function bit_table(bytes, bits, kind_of = () => '', wanted = 0, after_row = () => '') {
   const box = element('div', { class: 'bits', role: 'group', tabindex: '0', 'aria-label': 'Bytes and bits' });
   const middle = Math.floor(wanted / 8 / BYTES_A_ROW), rows = Math.ceil(bytes.length / BYTES_A_ROW);
   const first = rows > ROWS_AT_ONCE ? Math.max(0, middle - ROWS_AT_ONCE / 2) : 0;
@@ -59,11 +53,6 @@ export function bit_table(bytes, bits, kind_of, wanted = 0, after_row = () => ''
     box.append(button(rows > MOST_ROWS ? `The first ${grouped(MOST_ROWS)} of ${grouped(rows)} rows` : `All ${grouped(rows)} rows`, () => draw(0, Math.min(rows, MOST_ROWS))));
   }
   return box;
-}
-
-// The content of a written packet: the bits that its mask has, and those that changed lately, are told apart.
-export function content_table(content, mask, changes, bits) {
-  return bit_table(content, bits, (place) => `${mask && bit_at(mask, place) ? 'mask' : ''} ${bit_at(changes, place) ? 'change' : ''}`.trim());
 }
 
 // The data of a packet that has a first wrong bit: it is marked, with an arrow below, and what follows is faint.

@@ -30,10 +30,6 @@ export class Curve extends Picture {
     this.sight.disconnect();
   }
 
-  is_empty() {
-    return false;
-  }
-
   words() {
     const { at } = this.span, words = this.view.value_words(this.field, at);
     fill(this.now, words.replace(`${this.field.name} is `, '').replace(/ its limit.*/, ''));

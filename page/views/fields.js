@@ -20,7 +20,7 @@ const [LEAST_HEIGHT, MOST_HEIGHT, HEAD] = [46, 110, 19]; // of a curve, and what
 
 export class FieldsView extends View {
   constructor() {
-    super('recording', 'fields', 'fields-picture', 'fields-side');
+    super('recording', 'fields');
     Object.assign(this, { span: new Span(), curves: [], units: new Map() });
     this.asking = new Later(() => this.run(), 200);
     this.rows = new Rows('fields', 'fields', () => this.asking.start());

@@ -23,7 +23,7 @@ const are_same = (texts, others) => Object.keys(EXAMPLE).every((name) => texts[n
 
 export class ForecastView extends View {
   constructor() {
-    super('forecast', 'forecast', 'forecast-picture');
+    super('forecast');
     Object.assign(this, { span: new Span(), before: [], is_new: true, why_desk: new Desk(), pending: null });
     this.explaining = new Later(() => this.explain(), 160);
     this.plan = new Rows('plan', 'schedule', () => this.typed());
@@ -31,8 +31,8 @@ export class ForecastView extends View {
     this.advice = new Advice((asked, robust) => this.change(() => Object.assign(part('robust'), { value: robust }), asked), (asked, rows) => this.add_rows(rows, asked));
     this.strip = new Strip(part('forecast-strip'), this.span, {
       key: (event) => this.key(event),
-      drag: (first, last, is_other) => this.make_row(first, last, this.makes_whole() !== is_other),
-      drag_word: (first, last) => `${this.row_of(first, last, this.makes_whole())} when you let go; Escape leaves it`,
+      drag: (first, last, is_other) => this.make_row(first, last, part('drag-whole').checked !== is_other),
+      drag_word: (first, last) => `${this.row_of(first, last, part('drag-whole').checked)} when you let go; Escape leaves it`,
     });
     part('forecast-zoom').append(zoom_buttons(this.span));
     this.span.watch(() => this.point());
@@ -90,10 +90,6 @@ export class ForecastView extends View {
     if (!this.before.length) return;
     this.put(this.before.pop());
     this.tell_change('The latest change is taken back.');
-  }
-
-  makes_whole() {
-    return part('drag-whole').checked;
   }
 
   row_of(first, last, is_whole) {
@@ -201,7 +197,7 @@ export class ForecastView extends View {
     const { at } = this.span, { given: asked } = this.judged;
     try {
       const found = await this.why_desk.ask('why', { asked, at });
-      if (found) refill(part('forecast-tried'), element('p', { class: 'tried' }, 'Tried by the program:'), this.ways(found, asked, at));
+      if (found) refill(part('forecast-tried'), element('p', { class: 'hint' }, 'Tried by the program:'), this.ways(found, asked, at));
     } catch (fault) {
       fill(part('forecast-tried'), `What would make it sure can't be tried: ${fault.message}.`);
     }

@@ -1,6 +1,6 @@
 // What a store, its listing and its recording have of one packet: its place, its vectors, its bits.
 
-import { bit_table, content_table, from_hex, hex_words, ones_words, to_hex, wrong_table } from './bits.js';
+import { bit_at, bit_table, hex_words, ones_words, to_hex, wrong_table } from './bits.js';
 import { element, fill } from './parts.js';
 import { WHAT_TO_DO, packet_words } from './store_words.js';
 import { packet_length } from '../data/space.js';
@@ -54,7 +54,7 @@ function restored_details({ runs, recording, bits }, at, kind) {
   if (kind !== 'written') return [];
   const size = Math.ceil(Number(bits) / 8), place = new Places(runs).of(at), content = recording.subarray(place * size, (place + 1) * size);
   const facts = [['in the recording', `place ${grouped(place)}`], ['content', hex_words(content)]];
-  return [fact_list(facts), bit_table(content, Number(bits), () => '')];
+  return [fact_list(facts), bit_table(content, Number(bits))];
 }
 
 // What the listing and the store have of an arrival. `packet` are its bytes, which begin in the store at `start`.
@@ -70,16 +70,17 @@ function arrival_details({ listing, runs, bits }, place, kind, start, packet) {
     return [fact_list(facts), wrong_table(data, wrong)];
   }
   const mask = cells.indexOf('mask');
-  if (mask > 0) facts.push(['mask', hex_words(from_hex(cells[mask + 1]))]);
-  return [fact_list(facts), bit_table(data, 8 * data.length, () => '')];
+  if (mask > 0) facts.push(['mask', hex_words(Uint8Array.fromHex(cells[mask + 1]))]);
+  return [fact_list(facts), bit_table(data, 8 * data.length)];
 }
 
 function written_details([, , level, changes, mask, content], facts, data, bits) {
-  const known = mask === '-' ? null : from_hex(mask), recent = from_hex(changes), vector = from_hex(content);
+  const known = mask === '-' ? null : Uint8Array.fromHex(mask), [recent, vector] = [changes, content].map((it) => Uint8Array.fromHex(it));
   facts.push(['level', `${level}: so many packets before it could be missing`], ['content', hex_words(vector)]);
   facts.push(['mask', known ? `${hex_words(known)} (not predictable: ${ones_words(known)})` : 'not known']);
   facts.push(['recent changes', `${hex_words(recent)} (${ones_words(recent)})`], ['data', hex_words(data)]);
   const bit = (kind) => element('span', { class: 'bits' }, element('span', { class: kind }, '1'));
   const key = element('p', { class: 'hint' }, 'The content, bit by bit. ', bit('mask'), ' in the mask: not predictable; ', bit('change'), ' its mask changed lately.');
-  return [fact_list(facts), key, content_table(vector, known, recent, bits)];
+  const kind_of = (place) => `${known && bit_at(known, place) ? 'mask' : ''} ${bit_at(recent, place) ? 'change' : ''}`.trim();
+  return [fact_list(facts), key, bit_table(vector, bits, kind_of)];
 }

@@ -1,5 +1,6 @@
 // What strips and curves have in common to draw: colours, boxes, words, axes, and what is chosen.
 
+import { ticks_between } from './scale.js';
 import { grouped } from '../data/text.js';
 
 const LIGHT = {
@@ -67,13 +68,8 @@ export function write(pen, text, x, y, colour, size = 11, anchor = 'start', weig
   pen.fillText(text, x, y);
 }
 
-// The packets that are seen at which ticks stand, at most `most`: by the least step of 1, 2 or 5 times a power of ten.
-export function ticks_of(span, most) {
-  let step = 1;
-  for (let turn = 0; span.width / step > most && turn < 60; turn += 1) step *= turn % 3 === 1 ? 2.5 : 2;
-  const first = Math.ceil(span.first / step);
-  return Array.from({ length: Math.ceil((span.first + span.width) / step) - first }, (_, place) => (first + place) * step);
-}
+// The packets that are seen at which ticks stand, at most `most`.
+export const ticks_of = ({ first, width }, most) => ticks_between(first, first + width, most, 1).filter((tick) => tick < first + width);
 
 // The numbers of packets with their ticks; the words stand above the line or below it. `words` gives other words for a number, or is null.
 export function draw_axis(pen, span, y, is_above, words = null) {

@@ -7,8 +7,7 @@ export function element(tag, given = {}, ...inside) {
   const made = document.createElement(tag);
   for (const [name, value] of Object.entries(given)) {
     if (name.startsWith('on_')) made.addEventListener(name.slice(3), value);
-    else if (value === true) made.setAttribute(name, '');
-    else if (value !== false && value !== null) made.setAttribute(name, value);
+    else made.setAttribute(name, value);
   }
   made.append(...inside);
   return made;
@@ -25,17 +24,17 @@ export function tell(id, text) {
   part(id).hidden = !text;
 }
 
-// Calls `make` after so many milliseconds; a later call of `start` takes its place.
+// Calls `make` after so many milliseconds with what `start` is given; a later call of `start` takes its place.
 export class Later {
   constructor(make, wait) {
     Object.assign(this, { make, wait, timer: 0 });
   }
 
-  start() {
+  start(...given) {
     clearTimeout(this.timer);
     this.timer = setTimeout(() => {
       this.timer = 0;
-      this.make();
+      this.make(...given);
     }, this.wait);
   }
 
@@ -74,11 +73,13 @@ export function take_choice(chooser, taken) {
   });
 }
 
-export function refuse_value(input, told) {
-  const id = input.getAttribute('aria-describedby');
-  if (!part(id)) input.closest('.values').after(element('p', { class: 'refusal', id, role: 'status' }));
-  tell(id, told);
-  input.setAttribute('aria-invalid', told ? 'true' : 'false');
+// Says below a field what is wrong with it, or nothing.
+export function refuse_value(input, ...inside) {
+  const id = input.getAttribute('aria-describedby'), is_wrong = inside.some((it) => it !== '');
+  if (!part(id)) input.closest('.values, .editor').after(element('p', { class: 'refusal', id, role: 'status' }));
+  fill(part(id), ...inside);
+  part(id).hidden = !is_wrong;
+  input.setAttribute('aria-invalid', String(is_wrong));
 }
 
 // Sets what stands in a part that may have the focus, which stays in it: at its first button, or at itself.

@@ -22,9 +22,9 @@ export class Picture {
     pictures.delete(this);
   }
 
-  // Has it say what it shows, and drawn soon.
+  // Has it say what it shows, and drawn soon. If its `runs` are null, it shows nothing.
   change() {
-    const { canvas, span: { total, at } } = this, now = this.is_empty() ? [0, 0] : [Math.max(0, total - 1), at];
+    const { canvas, span: { total, at } } = this, now = this.runs === null ? [0, 0] : [Math.max(0, total - 1), at];
     for (const [name, value] of [['max', now[0]], ['now', now[1]], ['min', 0], ['text', this.words()]]) canvas.setAttribute(`aria-value${name}`, value);
     this.draw_soon();
   }

@@ -1,7 +1,7 @@
 // Side texts that are typed: a text area with the numbers of its lines, at which a refusal stands at its row; opened from a file and saved.
 
 import { page_unit } from './paint.js';
-import { button, element, fill, part, save, take_choice, take_drops } from './parts.js';
+import { button, element, fill, part, refuse_value, save, take_choice, take_drops } from './parts.js';
 import { WHY_ROW } from './why_row.js';
 import { records_of, with_rows } from '../data/records.js';
 import { grouped } from '../data/text.js';
@@ -21,17 +21,17 @@ export class Rows {
   // `id` is that of the text area, `kind` one of KINDS; `typed` is called when the text changes. The text area has a page of the text, which
   // stands between `above` and `below`; its first line is the line `first` of the text, from 0.
   constructor(id, kind, typed) {
-    const box = part(`${id}-box`), head = box.querySelector('h2'), note = `${id}-text-refusal`, about = { wrap: 'off', spellcheck: 'false', autocomplete: 'off', 'aria-describedby': note };
+    const box = part(`${id}-box`), head = box.querySelector('h2');
+    const about = { wrap: 'off', spellcheck: 'false', autocomplete: 'off', 'aria-describedby': `${id}-text-refusal` };
     Object.assign(this, { kind, typed, wrong: null, above: '', below: '', first: 0, count: 1, gutter: element('div', { class: 'gutter', 'aria-hidden': 'true' }) });
     this.area = element('textarea', { id, rows: box.dataset.rows, ...about, on_input: () => this.changed(), on_scroll: () => this.number_lines() });
-    this.note = element('p', { class: 'refusal', id: note, role: 'status', hidden: true });
     take_drops(box, (files) => this.open(files[0]));
     new ResizeObserver(() => this.number_lines()).observe(this.area);
     this.seen = element('span', { role: 'status' });
     const turn = (words, line_of) => button(words, () => this.turn_to(line_of()), { 'aria-label': `${words} of ${KINDS[kind].name}` });
-    this.pages = element('p', { class: 'hint', hidden: true }, this.seen, ' ', turn('Earlier lines', () => this.first - 1), ' ', turn('Later lines', () => this.first + this.count));
+    this.pages = element('p', { class: 'hint', hidden: '' }, this.seen, ' ', turn('Earlier lines', () => this.first - 1), ' ', turn('Later lines', () => this.first + this.count));
     head.replaceWith(element('div', { class: 'head' }, element('h2', {}, element('label', { for: id }, head.textContent)), this.buttons(`${id}-file`)));
-    box.append(element('div', { class: 'editor' }, this.gutter, this.area), this.pages, this.note);
+    box.append(element('div', { class: 'editor' }, this.gutter, this.area), this.pages);
   }
 
   // What opens the text from a file, and saves it.
@@ -115,12 +115,8 @@ export class Rows {
     this.number_lines();
   }
 
-  // Shows what is wrong with the text, or nothing.
   tell(...inside) {
-    const is_wrong = inside.some((it) => it !== '');
-    fill(this.note, ...inside);
-    this.note.hidden = !is_wrong;
-    this.area.setAttribute('aria-invalid', is_wrong ? 'true' : 'false');
+    refuse_value(this.area, ...inside);
   }
 
   show_line(line) {

@@ -7,12 +7,10 @@ const NONE = { unit: '', scale: 1, offset: 0, is_own: false };
 // The units of a text with rows name,unit,scale or name,unit,scale,offset; or the number of the first row that is none.
 export function read_units(text) {
   const units = new Map();
-  let row = 0;
-  for (const cells of fields_of(text)) {
-    row += 1;
+  for (const [row, cells] of fields_of(text).entries()) {
     const [name, unit, scale = '1', offset = '0'] = cells.map((cell) => cell.trim());
     const is_row = name && unit !== undefined && cells.length <= 4 && scale !== '' && offset !== '' && Number.isFinite(Number(scale) + Number(offset)) && Number(scale) !== 0;
-    if (!is_row) return { units, wrong: row };
+    if (!is_row) return { units, wrong: row + 1 };
     units.set(name, { unit, scale: Number(scale), offset: Number(offset), is_own: true });
   }
   return { units, wrong: 0 };
@@ -30,9 +28,9 @@ export function value_words(unit, cell) {
   return scaled ? `${cell} ${unit.unit}` : `${short_number(Number(cell) * unit.scale + unit.offset)} ${unit.unit} (${cell})`;
 }
 
-// Where ticks stand between two values, at most so many: steps of 1, 2 or 5 times a power of ten.
-export function ticks_between(low, high, most) {
-  const least = (high - low) / most;
+// Where ticks stand between two values, at most so many: by the least step of 1, 2 or 5 times a power of ten that is no less than `least_step`.
+export function ticks_between(low, high, most, least_step = 0) {
+  const least = Math.max(least_step, ((high - low) / most) * (1 - 1e-9));
   if (!(least > 0)) return [low];
   const power = 10 ** Math.floor(Math.log10(least)), step = power * [1, 2, 5, 10].find((factor) => power * factor >= least), found = [];
   for (let tick = Math.ceil(low / step - 1e-9) * step; tick <= high + step * 1e-9; tick += step) found.push(Number(tick.toPrecision(12)));

@@ -19,7 +19,7 @@ const IS_LOSS = new Set([LOST, EARLY, WRONG]); // for a forecast: what is damage
 
 export class StoreView extends View {
   constructor() {
-    super('store', 'store', 'store-picture');
+    super('store');
     Object.assign(this, { span: new Span(), typed: new Set() });
     this.asking = new Later(() => this.run(), 150);
     this.strip = new Strip(part('store-strip'), this.span);

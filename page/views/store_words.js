@@ -39,12 +39,12 @@ export function packet_words(runs, verb, at) {
 }
 
 // What is likely wrong with a store or the values as a whole, or nothing.
-export function store_warning({ runs, verb, window, falls, told }) {
+export function store_warning({ runs, window, told }) {
   const arrived = runs.total - runs.totals[LOST], odd = runs.totals[WRONG] + runs.totals[UNSYNCED] + runs.totals[EARLY];
   if (runs.total === 0) return 'No packet of this store has this APID.';
   if (runs.totals[0] === 0) return `Nothing is restored: ${NOT_THE_SENDERS}`;
   if (odd >= NEARLY * arrived) return `Nearly all that arrived are wrong or unsynced: ${NOT_THE_SENDERS}`;
-  if (verb === 'restore' && falls) return `The sequence counts fall back at ${counted(falls, 'packet', 'packets')}: ${DISORDER}`;
+  if (runs.falls) return `The sequence counts fall back at ${counted(runs.falls, 'packet', 'packets')}: ${DISORDER}`;
   if (!told.late) return '';
   return `${counted(told.late, 'packet', 'packets')} came too late for a window of ${window} and ${told.late === 1 ? 'is' : 'are'} left out${Number(window) < 64 ? ': a wider one may take them' : ''}.`;
 }

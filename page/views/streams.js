@@ -16,7 +16,7 @@ const lost_of = ({ told }) => told.counts[LOST].packets;
 
 export class StreamsView extends View {
   constructor() {
-    super('streams', 'streams', 'streams-picture');
+    super('streams');
     Object.assign(this, { inputs: new Map(), strips: [] });
     this.asking = new Later(() => this.run(), 300);
     take_drops(part('streams-drop'), (files) => this.take(files));

@@ -7,7 +7,7 @@ import { Picture } from './picture.js';
 import { NO_LEVEL } from '../data/runs.js';
 import { grouped, range_words } from '../data/text.js';
 
-export const STRIP = { height: 132, marks: 34, rail: 38, top: 44, bottom: 92, whole: 120 };
+const STRIP = { height: 132, marks: 34, rail: 38, top: 44, bottom: 92, whole: 120 };
 export const LOW_STRIP = { height: 88, marks: 12, rail: 16, top: 22, bottom: 52, whole: 82, is_low: true }; // beside other pictures
 export const STEPS = 48; // the heights of a unit's states have this sum
 const LEAST = 2; // no state that is there has less
@@ -38,18 +38,14 @@ function whole_parts(runs, span, wide) {
 // Those if packets share units: neighbours that look the same are one.
 function shared_parts(runs, span, wide) {
   const parts = [], each = span.width / wide;
-  let before = runs.before(span.first), key = '';
+  let before = runs.before(span.first);
   for (let x = 0; x < wide; x += 1) {
     const now = runs.before(Math.min(runs.total, span.first + (x + 1) * each));
     const heights = heights_of(now.map((count, kind) => count - before[kind])), to = Math.min(wide, x + 1);
+    const kind = heights.findLastIndex((height) => height > 0);
+    if (String(parts.at(-1)?.heights) === String(heights)) parts.at(-1).to = to;
+    else parts.push({ from: x, to, kind, is_whole: heights[kind] === STEPS, heights });
     before = now;
-    if (String(heights) === key) {
-      parts[parts.length - 1].to = to;
-      continue;
-    }
-    key = String(heights);
-    const kind = heights.reduce((worst, height, place) => (height > 0 ? place : worst), 0);
-    parts.push({ from: x, to, kind, is_whole: heights[kind] === STEPS, heights });
   }
   return parts;
 }
@@ -78,10 +74,6 @@ export class Strip extends Picture {
   // No picture, and why: after a refusal no old one stays.
   clear(refusal) {
     Object.assign(this, { runs: null, refusal }).change();
-  }
-
-  is_empty() {
-    return !this.runs;
   }
 
   words() {

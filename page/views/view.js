@@ -15,13 +15,13 @@ function progress_words({ read, size, doing }) {
 
 // What is under way, in words, with a button that ends it. The picture beside it is dim meanwhile.
 class Busy {
-  // `pictures` are the parts that are dim while it goes on; `cancel` ends it.
-  constructor(box, pictures, cancel) {
-    const show = new Later(() => {
-      box.hidden = false;
-    }, SOON);
-    Object.assign(this, { box, pictures, show, words: element('span', { role: 'status' }), cancel: button('Cancel', cancel) });
-    fill(box, this.words, ' ', this.cancel);
+  // `id` is that of the view, whose pictures are dim while it goes on; `cancel` ends it.
+  constructor(id, cancel) {
+    const main = part(`view-${id}`).querySelector('.main');
+    Object.assign(this, { pictures: [...main.children], words: element('span', { role: 'status' }), cancel: button('Cancel', cancel) });
+    this.box = element('p', { class: 'busy', id: `${id}-busy`, hidden: '' }, this.words, ' ', this.cancel);
+    this.show = new Later(() => Object.assign(this.box, { hidden: false }), SOON);
+    main.prepend(this.box);
   }
 
   begin(doing) {
@@ -58,10 +58,9 @@ class Busy {
 }
 
 export class View {
-  // `job` is what the worker does; `pictures` are dim while it does.
-  constructor(job, id, ...pictures) {
-    Object.assign(this, { job, desk: new Desk(), asked: null, judged: null });
-    this.busy = new Busy(part(`${id}-busy`), pictures.map(part), () => this.cancel());
+  // `job` is what the worker does.
+  constructor(job, id = job) {
+    Object.assign(this, { job, desk: new Desk(), asked: null, judged: null, busy: new Busy(id, () => this.cancel()) });
   }
 
   // Asks for what is to be shown of some files; the answer to an earlier question is never shown. Files that are made come in their place.

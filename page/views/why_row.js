@@ -1,8 +1,6 @@
 // Why the program refuses a row of a parameter file, in words.
 
-function is_plain(text) {
-  return /^(0|[1-9][0-9]{0,9})$/.test(text) && Number(text) <= 4294967295;
-}
+const is_plain = (text) => /^(0|[1-9][0-9]{0,9})$/.test(text) && Number(text) <= 4294967295;
 
 // What is wrong with the span of a row, or nothing.
 function wrong_span(first, last, step) {
@@ -36,11 +34,5 @@ export const WHY_ROW = {
     if (cells.length !== 5) return 'it has five parts: field,place,width,kind,name';
     if (cells[3] !== 'u' && cells[3] !== 's') return 'kind is u or s';
     return 'place and width lie within the bits of a packet (width 1 to 64), and the name is new, of letters, digits and _';
-  },
-  streams(cells) {
-    if (cells.length !== 2) return 'it has two parts: apid,bits';
-    if (!is_plain(cells[0]) || Number(cells[0]) > 2046) return 'the APID is a number from 0 to 2046';
-    if (!is_plain(cells[1]) || Number(cells[1]) < 1 || Number(cells[1]) > 49152) return 'the bits are a number from 1 to 49,152';
-    return 'its APID has a row above, or there are more than 64 rows';
   },
 };

@@ -8,7 +8,7 @@ export const EXAMPLE_NAME = 'The example';
 const EXAMPLE_LOSS = 'drop,23,24,1\ndrop,61,66,1\nrepeat,80,81,1,1\ndrop,101,101,1\ndrop,130,133,1\n';
 
 // Housekeeping of a craft in sun and shadow: so many packets of 64 bits.
-export function example_recording(count) {
+function example_recording(count) {
   const bytes = new Uint8Array(8 * count);
   for (let t = 0; t < count; t += 1) {
     const turn = (t % 90) / 90, is_dark_now = turn > 0.62;

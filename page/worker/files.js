@@ -24,9 +24,12 @@ export function take_piece({ number, piece, fault }) {
   else waiting.done(new Uint8Array(piece));
 }
 
-// Reads a file, and tells after each piece how much of it is there. `is_enough` is asked then whether the rest is needed; without the rest
-// the bytes are those that were read.
-export async function* bytes_of_file(file, seen = () => {}, is_enough = () => false) {
+// A file of these bytes, that the worker made itself.
+export const made_file = (bytes) => ({ size: bytes.length, read: async (from, to) => bytes.subarray(from, to) });
+
+// Reads a file, and tells after each piece how much of it is there. `is_enough` is given then the bytes, and how many of them were read, and
+// tells that the rest isn't needed; then the bytes are those that were read.
+export async function* bytes_of_file(file, is_enough = () => false) {
   let bytes, read = 0;
   try {
     bytes = new Uint8Array(file.size);
@@ -37,8 +40,7 @@ export async function* bytes_of_file(file, seen = () => {}, is_enough = () => fa
     const piece = await file.read(read, read + PIECE);
     bytes.set(piece, read);
     read += piece.length;
-    seen(bytes, read);
-    if (is_enough(read)) return bytes.subarray(0, read);
+    if (is_enough(bytes, read)) return bytes.subarray(0, read);
     yield { read, size: file.size };
   }
   return bytes;

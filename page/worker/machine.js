@@ -4,9 +4,10 @@
 // ends a run, a wrong one inside it would not be seen; so there is little of it. A browser has room for some hundred memories, so one
 // instance does many runs, and each finds the memory below the heap as it was at first, and no block taken.
 
+import { bytes_of, text_of } from '../data/text.js';
+
 const PAGE = 65536, TEXT_BYTES = 128, NO_ROOM = 11;
 const MUCH = 1 << 28; // bytes of a memory that is not kept
-const encoder = new TextEncoder(), decoder = new TextDecoder();
 let module = null, machine = null;
 
 class NoMemory extends Error {}
@@ -93,17 +94,17 @@ function desk_of({ calls, memory, begin }) {
   function end() {
     const text = place(TEXT_BYTES), exit = place(1);
     call('run', text, TEXT_BYTES, length, exit);
-    return { status: view().getUint8(exit), text: decoder.decode(copied(text, length_told())) };
+    return { status: view().getUint8(exit), text: text_of(copied(text, length_told())) };
   }
   function get(name) {
-    const bytes = encoder.encode(name), at = place(bytes);
+    const bytes = bytes_of(name), at = place(bytes);
     if (call('get', at, bytes.length, place(0), 0, length) !== NO_ROOM) return new Uint8Array(0);
     const count = length_told(), to = place(count);
     call('get', at, bytes.length, to, count, length);
     return copied(to, count);
   }
   call('desk_open');
-  return { put: (name, bytes) => call_with('put', encoder.encode(name), bytes), word: (word) => call_with('word', encoder.encode(word)), end, get };
+  return { put: (name, bytes) => call_with('put', bytes_of(name), bytes), word: (word) => call_with('word', bytes_of(word)), end, get };
 }
 
 export function begin_program(given) {

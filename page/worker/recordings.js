@@ -1,7 +1,7 @@
 // What is asked of a recording: its table of fields, and where its packets stand among all numbers.
 
 import { EXAMPLE_NAME, example_store } from './examples.js';
-import { bytes_of_file } from './files.js';
+import { bytes_of_file, made_file } from './files.js';
 import { run_program } from './machine.js';
 import { EXAMPLE_FIELDS } from '../data/example.js';
 import { fields_of } from '../data/records.js';
@@ -32,28 +32,24 @@ function role_of(front) {
 
 // The table of a recording by a text of fields. The files are what is shown and what comes in its place, each with its role or none; without
 // files it is the example.
-export async function* recording_job(asked) {
-  const made = asked.files.length ? null : example_of_recording();
-  const found = made ? { recording: 0, report: 1, fields: EXAMPLE_FIELDS } : yield* roles_of(asked);
-  const bits = made ? '64' : asked.bits, told = { ...found, bits, ...(made ?? {}) }, run = (recording) => table_by(recording, bits, found.fields);
+export async function* recording_job(given) {
+  const example = given.files.length ? null : example_of_recording();
+  const asked = example ? { roles: ['recording', 'report'], bits: '64', fields: EXAMPLE_FIELDS, files: example.made.map(made_file) } : given;
+  const found = yield* roles_of(asked), { files, bits } = asked, told = { ...found, bits, ...example };
+  const words = ['table', 'in=recording', 'out=table', 'report=outside', 'fields=fields', `bits=${bits}`];
+  const run = (recording) => run_program(words, { recording, fields: bytes_of(found.fields) });
   if (found.recording < 0) return { ...told, status: 0, text: '' };
   // (what is wrong with the bits or the fields is told before much is read)
-  const tried = run(new Uint8Array(0)), size = made ? 0 : asked.files[found.recording].size;
+  const tried = run(new Uint8Array(0)), { size } = files[found.recording];
   if (tried.status !== 0) return { ...told, status: tried.status, text: tried.text };
   const values = Math.floor((8 * size) / Number(bits)) * Math.max(1, fields_of(found.fields).filter(([word]) => word === 'field').length);
   if (values > MOST_VALUES) return { ...told, status: 5, text: `the recording has ${grouped(values)} ${VALUES}` };
-  const recording = made ? made.made[0].slice() : yield* bytes_of_file(asked.files[found.recording]);
-  const report = made ? made.made[1].slice() : found.report < 0 ? null : yield* bytes_of_file(asked.files[found.report]);
+  const recording = yield* bytes_of_file(files[found.recording]), report = found.report < 0 ? null : yield* bytes_of_file(files[found.report]);
   yield { doing: 'reading its fields' };
   const { status, text, outputs } = run(recording);
   if (status !== 0) return { ...told, status, text };
   yield { doing: 'reading its values' };
   return { ...told, status, text, ...table_of(outputs, found.fields, report && text_of(report)) };
-}
-
-function table_by(recording, bits, fields) {
-  const words = ['table', 'in=recording', 'out=table', 'report=outside', 'fields=fields', `bits=${bits}`];
-  return run_program(words, { recording, fields: bytes_of(fields) });
 }
 
 function table_of({ table: bytes, outside }, fields, text) {

@@ -1,27 +1,22 @@
 // What is asked of a store: its listing, what is restored of it, and that of many streams.
 
 import { EXAMPLE_NAME, example_store } from './examples.js';
-import { bytes_of_file } from './files.js';
+import { bytes_of_file, made_file } from './files.js';
 import { run_program } from './machine.js';
 import { stream_rows } from '../data/records.js';
 import { read_report, read_streams } from '../data/report.js';
 import { read_listing } from '../data/runs.js';
-import { Walk, arrivals_of, falls_back } from '../data/space.js';
+import { Walk, arrivals_of } from '../data/space.js';
 import { bytes_of, text_of } from '../data/text.js';
 
 const FRONT = 16; // bytes by which a store is known again
 const ALIKE = 'This is no store: it begins with a thousand packets of one and the same header, of a shape that is never judged';
-export const MOST_STREAMS = 64; // of one run
+const MOST_STREAMS = 64; // of one run
 
 // The bytes of a store, and what its headers tell: its APIDs with how many packets each has, the lesser ones first, and the one with most
 // packets. The rest of a file is not read after a header that is none.
 async function* read_store(file) {
-  let walk = null;
-  const store = yield* bytes_of_file(file, (bytes, read) => {
-    walk ??= new Walk(bytes);
-    walk.read(read);
-  }, (read) => walk.is_told(read));
-  walk ??= new Walk(store);
+  const walk = new Walk(), store = yield* bytes_of_file(file, (bytes, read) => walk.read(bytes, read));
   const apids = [...walk.apids].sort((one, other) => one[0] - other[0]), [most] = [...apids].sort((one, other) => other[1] - one[1]);
   return { store, told: { apids, front: store.subarray(0, FRONT).join(' ') }, main: most ? String(most[0]) : '100', is_alike: walk.is_alike() };
 }
@@ -32,10 +27,9 @@ const known_bits = (kept, front, apid) => kept.get(`${apid} ${front}`) ?? kept.g
 // Looks at a store: lists it and restores it by `verb`, restore or late. Without an APID it is the one with most packets, and so it is of
 // bytes whose headers are all alike; without bits they are those that are known of the APID. Without a file it is the example.
 export async function* store_job({ files: [file], bits: given_bits, apid: wanted, kept, verb, window }) {
-  const made = file ? null : example_store();
-  const { store, told, main, is_alike } = file ? yield* read_store(file) : { store: made, told: { apids: [[100, 170]], front: '' } };
+  const made = file ? null : example_store(), { store, told, main, is_alike } = yield* read_store(file ?? made_file(made));
   const apid = is_alike ? main : wanted ?? main, bits = given_bits ?? known_bits(kept, told.front, apid);
-  const given = ['in=store', `bits=${bits}`, `apid=${apid}`], answer = { ...told, apid, bits, ...(made ? { made: [made.slice()], name: EXAMPLE_NAME } : {}) };
+  const given = ['in=store', `bits=${bits}`, `apid=${apid}`], answer = { ...told, apid, bits, ...(made ? { made: [made], name: EXAMPLE_NAME } : {}) };
   if (verb === 'restore') {
     yield { doing: 'listing its packets' };
     Object.assign(answer, listed(store, given, Number(apid)));
@@ -50,8 +44,7 @@ export async function* store_job({ files: [file], bits: given_bits, apid: wanted
 function listed(store, given, apid) {
   const { status, text, outputs: { listing } } = run_program(['show', ...given, 'out=listing'], { store });
   if (status !== 0) return { status, text };
-  const places = arrivals_of(store, apid);
-  return { status, text, listing, places, runs: read_listing(listing), falls: falls_back(store, places) };
+  return { status, text, listing, places: arrivals_of(store, apid), runs: read_listing(listing) };
 }
 
 // What was restored: the recording, its report, and for `late`, which has no listing, the runs of the report.
