@@ -3,6 +3,7 @@
 
 mod chain;
 mod desk;
+mod draws;
 mod faults;
 mod forecasts;
 mod foreseen;

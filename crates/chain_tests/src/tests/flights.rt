@@ -15,14 +15,8 @@ fn flight(alloc: Global, f: u32) -> Result<Flight, NoMemory>
     Flight::open(alloc, f, 7, 2046, &mask, plan)
 }
 
-fn opens(alloc: Global, f: u32) -> bool
-    requires valid { IsPlaces f }
-{
-    flight(alloc, f).is_ok()
-}
-
 #[test]
 fn flights_open(rt: HostRuntime) {
-    assert!(rt; opens(rt.alloc(), 1));
-    assert!(rt; opens(rt.alloc(), 49_152));
+    assert!(rt; flight(rt.alloc(), 1).is_ok());
+    assert!(rt; flight(rt.alloc(), 49_152).is_ok());
 }

@@ -1,9 +1,7 @@
 //! What no clause says: that the calls answer with ample memory, and what is restored then.
 
-use bit_vectors::NoMemory;
 use ground_chain::{Ground, Lister, Restorer, Unwrap};
 use packet_store::PERIOD;
-use std::alloc::Global;
 use std::test::Fail;
 
 // Counts of arrivals, one after the other, and their numbers.
@@ -38,23 +36,10 @@ fn numbers_at_the_corners(rt: HostRuntime) {
     assert_eq!(rt; unwrap.last(), Some(49_150));
 }
 
-fn ground_opens(alloc: Global) -> Result<bool, NoMemory> {
-    let ground = Ground::open(alloc, 8)?;
-    Ok(ground.decoder().last().is_none())
-}
-
-fn restorer_opens(alloc: Global) -> bool {
-    Restorer::open(alloc, 8, 100).is_ok()
-}
-
-fn lister_opens(alloc: Global) -> bool {
-    Lister::open(alloc, 8, 100).is_ok()
-}
-
 #[test]
 fn with_memory_all_is_opened(rt: HostRuntime) -> Result<(), Fail> {
-    assert!(rt; ground_opens(rt.alloc())?);
-    assert!(rt; restorer_opens(rt.alloc()));
-    assert!(rt; lister_opens(rt.alloc()));
+    assert!(rt; Ground::open(rt.alloc(), 8)?.decoder().last().is_none());
+    assert!(rt; Restorer::open(rt.alloc(), 8, 100).is_ok());
+    assert!(rt; Lister::open(rt.alloc(), 8, 100).is_ok());
     Ok(())
 }

@@ -1,6 +1,7 @@
 //! Texts of schedules, scripts and streams, with what they must mean.
 
 use bit_vectors::{Flags, NoMemory};
+use side_tables::SideFault::{Row, TooLong};
 use side_tables::{
     CopyLookup, CopyRow, FlagRow, Lookup, Schedule, Script, SideFault, Streams, signed_number,
 };
@@ -42,12 +43,12 @@ static SCHEDULES: [(&str, u32, Result<&str, SideFault>); 14] = [
     ("0,9,1,f\r\n5,5,1,rp\n", 5, Ok("pfr")),
     ("\"0\",9,1,\"p\"", 9, Ok("p")),
     ("\u{feff}7,4294967295,4294967288,r", 4_294_967_295, Ok("r")),
-    ("1,5,0,p", 0, Err(SideFault::Row { row: 1 })),
-    ("\n\n1,5,0,p", 0, Err(SideFault::Row { row: 1 })),
-    ("0,9,1,f\n5,9,1,pp", 0, Err(SideFault::Row { row: 2 })),
-    ("5,4,1,p", 0, Err(SideFault::Row { row: 1 })),
-    ("00,4,1,p", 0, Err(SideFault::Row { row: 1 })),
-    ("0,4294967296,1,p", 0, Err(SideFault::Row { row: 1 })),
+    ("1,5,0,p", 0, Err(Row { row: 1 })),
+    ("\n\n1,5,0,p", 0, Err(Row { row: 1 })),
+    ("0,9,1,f\n5,9,1,pp", 0, Err(Row { row: 2 })),
+    ("5,4,1,p", 0, Err(Row { row: 1 })),
+    ("00,4,1,p", 0, Err(Row { row: 1 })),
+    ("0,4294967296,1,p", 0, Err(Row { row: 1 })),
 ];
 
 const PR: Flags = Flags {
@@ -139,19 +140,11 @@ static ROBUST: [(&str, u32, Result<Option<u8>, SideFault>); 12] = [
     ("robust,6,6,1,0\nrobust,0,9,3,7", 6, Ok(Some(7))),
     ("robust,0,9,1,3\n0,9,1,p", 4, Ok(Some(3))),
     ("0,9,1,p", 4, Ok(None)),
-    ("robust,0,9,1,8", 0, Err(SideFault::Row { row: 1 })),
-    ("0,9,1,p\nrobust,0,9,1", 0, Err(SideFault::Row { row: 2 })),
-    (
-        "robust,0,9,1,1\nRobust,0,9,1,1",
-        0,
-        Err(SideFault::Row { row: 2 }),
-    ),
-    (
-        "robust,0,9,1,1\n0,9,1,p,1",
-        0,
-        Err(SideFault::Row { row: 2 }),
-    ),
-    ("robust,9,8,1,1", 0, Err(SideFault::Row { row: 1 })),
+    ("robust,0,9,1,8", 0, Err(Row { row: 1 })),
+    ("0,9,1,p\nrobust,0,9,1", 0, Err(Row { row: 2 })),
+    ("robust,0,9,1,1\nRobust,0,9,1,1", 0, Err(Row { row: 2 })),
+    ("robust,0,9,1,1\n0,9,1,p,1", 0, Err(Row { row: 2 })),
+    ("robust,9,8,1,1", 0, Err(Row { row: 1 })),
 ];
 
 #[test]
@@ -173,10 +166,10 @@ static SCRIPTS: [(&str, u32, Result<u8, SideFault>); 10] = [
     ("repeat,0,3,1,8", 0, Ok(9)),
     ("drop,0,9,1\nrepeat,5,5,1,1", 5, Ok(2)),
     ("repeat,5,5,1,1\ndrop,0,9,1", 5, Ok(0)),
-    ("repeat,0,3,1,9", 0, Err(SideFault::Row { row: 1 })),
-    ("repeat,0,3,1,0", 0, Err(SideFault::Row { row: 1 })),
-    ("drop,0,3", 0, Err(SideFault::Row { row: 1 })),
-    ("drop,0,3,1\nDrop,0,3,1", 0, Err(SideFault::Row { row: 2 })),
+    ("repeat,0,3,1,9", 0, Err(Row { row: 1 })),
+    ("repeat,0,3,1,0", 0, Err(Row { row: 1 })),
+    ("drop,0,3", 0, Err(Row { row: 1 })),
+    ("drop,0,3,1\nDrop,0,3,1", 0, Err(Row { row: 2 })),
 ];
 
 #[test]
@@ -214,13 +207,13 @@ static STREAMS: [(&str, u16, Result<Option<u32>, SideFault>); 15] = [
     ("0,1\r\n2046,49152\n", 2046, Ok(Some(49_152))),
     ("0,1\r\n2046,49152\n", 2047, Ok(None)),
     ("0,1\r\n2046,49152\n", u16::MAX, Ok(None)),
-    ("100,8\n100,16", 0, Err(SideFault::Row { row: 2 })),
-    ("2047,8", 0, Err(SideFault::Row { row: 1 })),
-    ("100,0", 0, Err(SideFault::Row { row: 1 })),
-    ("100,8\n101,49153", 0, Err(SideFault::Row { row: 2 })),
-    ("100,8\n101", 0, Err(SideFault::Row { row: 2 })),
-    ("100,8,", 0, Err(SideFault::Row { row: 1 })),
-    ("0100,8", 0, Err(SideFault::Row { row: 1 })),
+    ("100,8\n100,16", 0, Err(Row { row: 2 })),
+    ("2047,8", 0, Err(Row { row: 1 })),
+    ("100,0", 0, Err(Row { row: 1 })),
+    ("100,8\n101,49153", 0, Err(Row { row: 2 })),
+    ("100,8\n101", 0, Err(Row { row: 2 })),
+    ("100,8,", 0, Err(Row { row: 1 })),
+    ("0100,8", 0, Err(Row { row: 1 })),
 ];
 
 #[test]
@@ -248,7 +241,7 @@ fn most_streams(rt: HostRuntime) -> Result<(), Fail> {
     let most = many_streams(rt.alloc(), 64)?;
     assert_eq!(rt; bits_of(rt.alloc(), &most, 63), Ok(Some(8)));
     let more = many_streams(rt.alloc(), 66)?;
-    let bad = Err(SideFault::Row { row: 65 });
+    let bad = Err(Row { row: 65 });
     assert_eq!(rt; bits_of(rt.alloc(), &more, 0), bad);
     Ok(())
 }
@@ -256,11 +249,8 @@ fn most_streams(rt: HostRuntime) -> Result<(), Fail> {
 #[test]
 fn long_texts(rt: HostRuntime) -> Result<(), Fail> {
     let text = vec![in rt.alloc(); b'p'; 1_048_577]?;
-    assert_eq!(rt; flags(rt.alloc(), &text, 0), Err(SideFault::TooLong));
-    assert_eq!(rt;
-        flags(rt.alloc(), &text[1..], 0),
-        Err(SideFault::Row { row: 1 })
-    );
+    assert_eq!(rt; flags(rt.alloc(), &text, 0), Err(TooLong));
+    assert_eq!(rt; flags(rt.alloc(), &text[1..], 0), Err(Row { row: 1 }));
     Ok(())
 }
 

@@ -40,10 +40,6 @@ fn trial(alloc: Global) -> Result<(Summary, MemDesk), NoMemory> {
     Ok((summary, desk))
 }
 
-fn holds(desk: &MemDesk, name: &str, bytes: &[u8]) -> bool {
-    desk.get(name) == bytes
-}
-
 fn assert_trial(rt: &impl Abort, summary: Summary, desk: &MemDesk) {
     let wanted = Summary {
         packets: 3,
@@ -56,7 +52,7 @@ fn assert_trial(rt: &impl Abort, summary: Summary, desk: &MemDesk) {
     };
     assert_eq!(rt; summary, wanted);
     for (name, bytes) in &HELD {
-        assert!(rt; holds(desk, name, bytes));
+        assert_eq!(rt; desk.get(name), *bytes, "{name}");
     }
 }
 

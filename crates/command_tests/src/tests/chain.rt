@@ -1,10 +1,9 @@
 //! The commands one after the other at one desk.
 
-use super::desk::{HEADER, assert_done, hold, joined, new_desk};
+use super::desk::{HEADER, Tester, assert_done, hold, joined, new_desk};
 use super::samples::PLAY_HEADER;
 use bit_vectors::NoMemory;
 use desk_ports::MemDesk;
-use std::process::Abort;
 use std::test::Fail;
 
 const COMPRESS: &str = "compress in=recording plan=plan out=store apid=100 ";
@@ -40,7 +39,7 @@ pub struct Chain<'a> {
 
 /// Does what the words in two parts say, which must end well.
 fn assert_joined(
-    rt: &(impl Abort + AllocGlobal),
+    rt: &impl Tester,
     front: &str,
     back: &str,
     desk: &mut MemDesk,
@@ -50,7 +49,7 @@ fn assert_joined(
 }
 
 /// What is kept under a name must be these bytes.
-fn assert_kept(rt: &impl Abort, chain: &Chain<'_>, desk: &MemDesk, name: &str, wanted: &[u8]) {
+fn assert_kept(rt: &impl Tester, chain: &Chain<'_>, desk: &MemDesk, name: &str, wanted: &[u8]) {
     let (plan, script) = (chain.plan, chain.script);
     assert_eq!(rt;
         desk.get(name),
@@ -66,11 +65,7 @@ fn hold_chain(desk: &mut MemDesk, chain: &Chain<'_>) -> Result<(), NoMemory> {
 }
 
 /// The recording is compressed, its store is played, and what was played is restored.
-pub fn assert_chain(
-    rt: &(impl Abort + AllocGlobal),
-    chain: &Chain<'_>,
-    desk: &mut MemDesk,
-) -> Result<(), Fail> {
+pub fn assert_chain(rt: &impl Tester, chain: &Chain<'_>, desk: &mut MemDesk) -> Result<(), Fail> {
     hold_chain(desk, chain)?;
     assert_joined(rt, COMPRESS, chain.flight, desk)?;
     assert_done(rt, PLAY, desk)?;
@@ -84,11 +79,7 @@ pub fn assert_chain(
 }
 
 /// The store gives the recording back.
-fn assert_given_back(
-    rt: &(impl Abort + AllocGlobal),
-    chain: &Chain<'_>,
-    desk: &mut MemDesk,
-) -> Result<(), Fail> {
+fn assert_given_back(rt: &impl Tester, chain: &Chain<'_>, desk: &mut MemDesk) -> Result<(), Fail> {
     assert_joined(rt, GIVE_BACK, chain.ground, desk)?;
     assert_kept(rt, chain, desk, "given_back", chain.recording);
     Ok(())
@@ -96,7 +87,7 @@ fn assert_given_back(
 
 /// The listing of the store is this text.
 pub fn assert_listed(
-    rt: &(impl Abort + AllocGlobal),
+    rt: &impl Tester,
     chain: &Chain<'_>,
     desk: &mut MemDesk,
     listing: &[u8],
@@ -108,7 +99,7 @@ pub fn assert_listed(
 
 /// The recording goes through the three commands, and its store gives it back.
 pub fn assert_there_and_back(
-    rt: &(impl Abort + AllocGlobal),
+    rt: &impl Tester,
     chain: &Chain<'_>,
     desk: &mut MemDesk,
 ) -> Result<(), Fail> {
@@ -117,6 +108,6 @@ pub fn assert_there_and_back(
 }
 
 /// The same at a desk of its own.
-pub fn assert_whole_chain(rt: &(impl Abort + AllocGlobal), chain: &Chain<'_>) -> Result<(), Fail> {
+pub fn assert_whole_chain(rt: &impl Tester, chain: &Chain<'_>) -> Result<(), Fail> {
     assert_there_and_back(rt, chain, &mut new_desk(rt.alloc()))
 }

@@ -20,7 +20,12 @@ pub const LIST: &str = "show in=a out=b bits=8 apid=100";
 /// The first line of a report.
 pub const HEADER: &str = "first,last,cause,value\n";
 
-/// The words in one line, what the inputs have, whether a call moves one byte at most, and the calls that fail.
+/// What a test is given: it may assert and allocate.
+pub trait Tester: Abort + AllocGlobal {}
+
+impl<R: Abort + AllocGlobal> Tester for R {}
+
+/// The words in one line, what the inputs have, the most bytes that a call moves, and the calls that fail.
 #[derive(Clone, Copy)]
 pub struct Case<'a> {
     pub words: &'a str,
@@ -28,7 +33,8 @@ pub struct Case<'a> {
     pub input: Option<&'a [u8]>,
     /// What is held as `s`.
     pub side: Option<&'a [u8]>,
-    pub one_byte: bool,
+    /// How many bytes a call moves at most, if not all.
+    pub pieces: Option<u32>,
     pub fails: &'a [(Call, u32)],
 }
 
@@ -50,7 +56,7 @@ pub fn words_alone(words: &str) -> Case<'_> {
         words,
         input: None,
         side: None,
-        one_byte: false,
+        pieces: None,
         fails: &[],
     }
 }
@@ -105,26 +111,12 @@ fn faults_of(refusal: Refusal) -> (u64, u64) {
 }
 
 /// Runs a case, which must end like this.
-pub fn assert_ending(
-    rt: &(impl Abort + AllocGlobal),
-    case: &Case<'_>,
-    wanted: &Ending<'_>,
-) -> Result<(), Fail> {
+pub fn assert_ending(rt: &impl Tester, case: &Case<'_>, wanted: &Ending<'_>) -> Result<(), Fail> {
     let mut desk = desk_for(rt.alloc(), case)?;
-    assert_ending_at(rt, case, &mut desk, wanted)
-}
-
-/// Runs it at this desk.
-fn assert_ending_at(
-    rt: &(impl Abort + AllocGlobal),
-    case: &Case<'_>,
-    desk: &mut MemDesk,
-    wanted: &Ending<'_>,
-) -> Result<(), Fail> {
-    let status = answer(rt.alloc(), case.words, desk)?;
+    let status = answer(rt.alloc(), case.words, &mut desk)?;
     let side = front(case.side.unwrap_or(&[]), 80);
     assert_eq!(rt;
-        ended(status, desk),
+        ended(status, &desk),
         *wanted,
         "{} {:?} {side:?}",
         case.words,
@@ -138,30 +130,12 @@ pub fn front(bytes: &[u8], count: usize) -> &[u8] {
     &bytes[..count.min(bytes.len())]
 }
 
-/// Runs a case with reads and writes of seven bytes at most.
-fn assert_by_seven(
-    rt: &(impl Abort + AllocGlobal),
-    case: &Case<'_>,
-    wanted: &Ending<'_>,
-) -> Result<(), Fail> {
-    let mut desk = desk_for(rt.alloc(), case)?;
-    by_seven_bytes(&mut desk);
-    assert_ending_at(rt, case, &mut desk, wanted)
-}
-
 /// Runs a case with whole reads and writes, with those of seven bytes at most, and with those of one byte.
-pub fn assert_both(
-    rt: &(impl Abort + AllocGlobal),
-    case: Case<'_>,
-    wanted: &Ending<'_>,
-) -> Result<(), Fail> {
-    assert_ending(rt, &case, wanted)?;
-    assert_by_seven(rt, &case, wanted)?;
-    let one_byte = Case {
-        one_byte: true,
-        ..case
-    };
-    assert_ending(rt, &one_byte, wanted)
+pub fn assert_in_pieces(rt: &impl Tester, case: Case<'_>, wanted: &Ending<'_>) -> Result<(), Fail> {
+    for pieces in [None, Some(7), Some(1)] {
+        assert_ending(rt, &Case { pieces, ..case }, wanted)?;
+    }
+    Ok(())
 }
 
 /// Bytes from their hexadecimal digits, two for each.
@@ -192,23 +166,15 @@ pub fn joined(alloc: Global, front: &str, back: &str) -> Result<String, AllocErr
 /// Does what the words in a line say.
 pub fn answer(alloc: Global, line: &str, desk: &mut MemDesk) -> Result<Status, AllocError> {
     let words = words_of(alloc, line)?;
-    Ok(answer_to(alloc, &words, desk))
+    let few = words.len().min(1000);
+    Ok(pocket(alloc, &words[..few], desk))
 }
 
 /// Does what the words in a line say, which must end well.
-pub fn assert_done(
-    rt: &(impl Abort + AllocGlobal),
-    line: &str,
-    desk: &mut MemDesk,
-) -> Result<(), Fail> {
+pub fn assert_done(rt: &impl Tester, line: &str, desk: &mut MemDesk) -> Result<(), Fail> {
     let status = answer(rt.alloc(), line, desk)?;
     assert_eq!(rt; status, Status::Done, "{line}");
     Ok(())
-}
-
-fn answer_to(alloc: Global, words: &[String], desk: &mut MemDesk) -> Status {
-    let few = words.len().min(1000);
-    pocket(alloc, &words[..few], desk)
 }
 
 pub fn words_of(alloc: Global, line: &str) -> Result<Vec<String>, AllocError> {
@@ -224,30 +190,14 @@ pub fn new_desk(alloc: Global) -> MemDesk {
     MemDesk::new(alloc)
 }
 
-/// From here on a call moves one byte at most.
-pub fn by_single_bytes(desk: &mut MemDesk) {
-    desk.pieces(1);
-}
-
-fn by_seven_bytes(desk: &mut MemDesk) {
-    desk.pieces(7);
-}
-
-fn let_fail(desk: &mut MemDesk, call: Call, nth: u32) -> Result<(), NoMemory> {
-    desk.fail(call, nth)
+/// From here on a call moves so many bytes at most.
+pub fn in_pieces(desk: &mut MemDesk, size: u32) {
+    desk.pieces(size.max(1));
 }
 
 /// Holds bytes under a name.
 pub fn hold(desk: &mut MemDesk, name: &str, bytes: &[u8]) -> Result<(), NoMemory> {
     desk.put(name, bytes)
-}
-
-/// Holds the bytes of an input, if there is one.
-fn hold_some(desk: &mut MemDesk, name: &str, input: Option<&[u8]>) -> Result<(), NoMemory> {
-    match input {
-        None => Ok(()),
-        Some(bytes) => hold(desk, name, bytes),
-    }
 }
 
 fn desk_for(alloc: Global, case: &Case<'_>) -> Result<MemDesk, NoMemory> {
@@ -258,13 +208,16 @@ fn desk_for(alloc: Global, case: &Case<'_>) -> Result<MemDesk, NoMemory> {
 
 /// Holds the inputs of a case, and lets the calls fail that it names.
 fn prepare(desk: &mut MemDesk, case: &Case<'_>) -> Result<(), NoMemory> {
-    hold_some(desk, "a", case.input)?;
-    hold_some(desk, "s", case.side)?;
-    if case.one_byte {
-        by_single_bytes(desk);
+    for (name, input) in [("a", case.input), ("s", case.side)] {
+        if let Some(bytes) = input {
+            hold(desk, name, bytes)?;
+        }
+    }
+    if let Some(size) = case.pieces {
+        in_pieces(desk, size);
     }
     for (call, nth) in case.fails {
-        let_fail(desk, *call, *nth)?;
+        desk.fail(*call, *nth)?;
     }
     Ok(())
 }

@@ -1,7 +1,7 @@
 //! A desk in which some calls fail: what each verb leaves then; and stores that are cut.
 
 use super::desk::{
-    BY_SCRIPT, Case, EIGHT_BITS, Ending, HEADER, LIST, assert_ending, done, front, refused,
+    BY_SCRIPT, Case, EIGHT_BITS, Ending, HEADER, LIST, Tester, assert_ending, done, front, refused,
     with_input, words_alone,
 };
 use super::samples::{LISTING, PLAY_REPORT, PLAYED, RECORDING, REPORT, RESTORED, STORE};
@@ -9,7 +9,6 @@ use super::trials::{SUMMARY, THREE};
 use desk_ports::Call;
 use packet_store::StoreKind;
 use pocket_cmd::Refusal;
-use std::process::Abort;
 use std::test::Fail;
 
 const COMPRESS: &str = "compress in=a out=b bits=8 apid=100 robust=1";
@@ -130,7 +129,7 @@ fn call_of(name: &str) -> Option<Call> {
 }
 
 /// The calls that fail in a row.
-fn calls_of(rt: &(impl Abort + AllocGlobal), text: &str) -> Result<Vec<(Call, u32)>, Fail> {
+fn calls_of(rt: &impl Tester, text: &str) -> Result<Vec<(Call, u32)>, Fail> {
     let mut calls = Vec::new(rt.alloc());
     let mut words = text.split_ascii_whitespace();
     while let Some(name) = words.next() {
@@ -163,33 +162,30 @@ fn ending_of<'a>(text: &str, output: &'a [u8], report: &'a [u8]) -> Option<Endin
 }
 
 fn assert_fault_row(
-    rt: &(impl Abort + AllocGlobal),
+    rt: &impl Tester,
     faults: &Faults,
-    one_byte: bool,
+    pieces: Option<u32>,
     row: &str,
 ) -> Result<(), Fail> {
     let (calls, end) = row.split_once(':').unwrap_or((row, ""));
-    let Some(ending) = ending_of(end, faults.output, faults.report) else {
-        return Err(Fail::new(row));
-    };
+    let ending = ending_of(end, faults.output, faults.report).ok_or(row)?;
     let fails = calls_of(rt, calls)?;
     let case = Case {
         words: faults.words,
         input: faults.input,
         side: faults.side,
-        one_byte,
+        pieces,
         fails: &fails,
     };
     assert_ending(rt, &case, &ending)
 }
 
-pub fn assert_faults(rt: &(impl Abort + AllocGlobal), verbs: &[Faults]) -> Result<(), Fail> {
+pub fn assert_faults(rt: &impl Tester, verbs: &[Faults]) -> Result<(), Fail> {
     for faults in verbs {
-        for row in faults.whole.split_terminator('|') {
-            assert_fault_row(rt, faults, false, row)?;
-        }
-        for row in faults.single.split_terminator('|') {
-            assert_fault_row(rt, faults, true, row)?;
+        for (pieces, rows) in [(None, faults.whole), (Some(1), faults.single)] {
+            for row in rows.split_terminator('|') {
+                assert_fault_row(rt, faults, pieces, row)?;
+            }
         }
     }
     Ok(())
@@ -213,10 +209,10 @@ fn restored_until(written: usize) -> Ending<'static> {
 }
 
 /// Makes each write of one byte fail in turn, up to the first number that no write has.
-fn assert_writes(rt: &(impl Abort + AllocGlobal)) -> Result<(), Fail> {
+fn assert_writes(rt: &impl Tester) -> Result<(), Fail> {
     for written in 0..48u32 {
         let case = Case {
-            one_byte: true,
+            pieces: Some(1),
             fails: &[(Call::Write, written + 1)],
             ..with_input(EIGHT_BITS, PLAYED)
         };
@@ -245,7 +241,7 @@ fn cut_at(size: usize) -> Ending<'static> {
 }
 
 /// The store cut at each length.
-fn assert_cuts(rt: &(impl Abort + AllocGlobal)) -> Result<(), Fail> {
+fn assert_cuts(rt: &impl Tester) -> Result<(), Fail> {
     for size in 0..30 {
         let case = with_input(EIGHT_BITS, front(PLAYED, size));
         assert_ending(rt, &case, &cut_at(size))?;

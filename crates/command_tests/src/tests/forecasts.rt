@@ -1,11 +1,10 @@
 //! Worked forecasts: of a thousand packets and of few, scripts and schedules that are refused, and a desk that fails.
 
-use super::desk::{Case, assert_ending, done, refused, with_both, words_alone};
+use super::desk::{Case, Tester, assert_ending, done, refused, with_both, words_alone};
 use super::faults::{Faults, assert_faults};
-use super::rows::{Form, Table, Wrong, assert_refused, assert_rows, assert_wrong_words};
+use super::rows::{Form, Table, assert_refused, assert_rows};
 use desk_ports::Call;
 use pocket_cmd::Refusal;
-use std::process::Abort;
 use std::test::Fail;
 
 /// The script is held as `a`, the schedule as `s`.
@@ -78,7 +77,7 @@ fn refusals(rt: HostRuntime) -> Result<(), Fail> {
 
 /// Refused before the script is opened, and without one.
 fn assert_first(
-    rt: &(impl Abort + AllocGlobal),
+    rt: &impl Tester,
     plan: &[u8],
     script: &[u8],
     refusal: Refusal,
@@ -94,7 +93,7 @@ fn assert_first(
 
 /// Refused before an output is opened.
 fn assert_script(
-    rt: &(impl Abort + AllocGlobal),
+    rt: &impl Tester,
     plan: &[u8],
     script: &[u8],
     refusal: Refusal,
@@ -163,32 +162,4 @@ static FAILING: [Faults; 1] = [Faults {
 #[test]
 fn a_forecast_at_each_fault(rt: HostRuntime) -> Result<(), Fail> {
     assert_faults(&rt, &FAILING)
-}
-
-/// Lines of words, and the place of the first wrong word in each.
-static WRONG_WORDS: [Wrong; 16] = [
-    ("forecast", 1),
-    ("forecast out=b packets=0 robust=1 plan=s script=a", 2),
-    ("forecast out=b packets=1000001 robust=1 plan=s script=a", 2),
-    ("forecast out=b packets=04 robust=1 plan=s script=a", 2),
-    ("forecast out=b packets=4 robust=8 plan=s script=a", 3),
-    ("forecast packets=4 robust=1 plan=s script=a", 5),
-    ("forecast out=b robust=1 plan=s script=a", 5),
-    ("forecast out=b packets=4 plan=s script=a", 5),
-    ("forecast out=b packets=4 robust=1 script=a", 5),
-    ("forecast out=b packets=4 robust=1 plan=s", 5),
-    ("forecast out=b packets=4 robust=1 plan=s script=s", 5),
-    ("forecast out=b packets=4 robust=1 plan=b script=a", 4),
-    ("forecast out=b packets=4 robust=1 plan=s script=b", 5),
-    ("forecast out=b packets=4 robust=1 plan=- script=-", 5),
-    ("forecast in=c out=b packets=4 robust=1 plan=s script=a", 1),
-    (
-        "forecast out=b packets=4 robust=1 plan=s script=a report=c",
-        6,
-    ),
-];
-
-#[test]
-fn words_of_forecasts(rt: HostRuntime) -> Result<(), Fail> {
-    assert_wrong_words(&rt, &WRONG_WORDS)
 }

@@ -1,12 +1,12 @@
 //! Schedules, scripts and recordings that are drawn: a forecast is what the definition says, packet by packet, and
 //! what it calls sure is written.
 
-use super::desk::{assert_done, hold, new_desk};
+use super::desk::{Tester, assert_done, hold, new_desk};
+use super::draws::Draws;
 use bit_vectors::NoMemory;
 use desk_ports::MemDesk;
 use side_tables::{Schedule, Script};
 use std::alloc::{AllocError, Global};
-use std::process::Abort;
 use std::test::Fail;
 
 /// How many packets there are.
@@ -23,23 +23,6 @@ static COMMANDS: [&str; 3] = [
     "play in=store script=script out=played report=report apid=100",
     "show in=played out=listing apid=100 bits=8",
 ];
-
-/// Numbers that are drawn one after another.
-#[derive(Clone, Copy)]
-struct Draws {
-    state: u32,
-}
-
-impl Draws {
-    /// The next number, below a bound.
-    fn below(&mut self, bound: u32) -> u32 {
-        self.state = self
-            .state
-            .wrapping_mul(1_664_525)
-            .wrapping_add(1_013_904_223);
-        (self.state >> 8).checked_rem(bound).unwrap_or(0)
-    }
-}
 
 /// The flags of a row.
 fn letters(draw: u32) -> &'static str {
@@ -230,7 +213,7 @@ fn written_by(alloc: Global, listing: &str) -> Result<Vec<usize>, AllocError> {
 }
 
 /// Each packet that is sure is written.
-fn assert_written(rt: &impl Abort, states: &[&'static str], written: &[usize]) {
+fn assert_written(rt: &impl Tester, states: &[&'static str], written: &[usize]) {
     for (t, state) in states.iter().enumerate() {
         if *state == "sure" {
             assert!(rt; written.contains(&t), "{t} in {written:?}");
@@ -239,7 +222,7 @@ fn assert_written(rt: &impl Abort, states: &[&'static str], written: &[usize]) {
 }
 
 /// Makes the forecast, and then the listing of what was written.
-fn assert_all_done(rt: &(impl Abort + AllocGlobal), desk: &mut MemDesk) -> Result<(), Fail> {
+fn assert_all_done(rt: &impl Tester, desk: &mut MemDesk) -> Result<(), Fail> {
     assert_done(rt, FORECAST, desk)?;
     for words in &COMMANDS {
         assert_done(rt, words, desk)?;
@@ -253,22 +236,14 @@ fn text_at<'a>(desk: &'a MemDesk, name: &str) -> &'a str {
 }
 
 /// What is forecast begins with the lines of these states.
-fn assert_forecast(
-    rt: &(impl Abort + AllocGlobal),
-    text: &str,
-    states: &[&'static str],
-) -> Result<(), Fail> {
+fn assert_forecast(rt: &impl Tester, text: &str, states: &[&'static str]) -> Result<(), Fail> {
     let lines = lines_of(rt.alloc(), states)?;
     assert!(rt; text.starts_with(lines.as_str()), "{text}\n{lines}");
     Ok(())
 }
 
 /// What is forecast begins with the lines of the definition, and what it calls sure is written of the recording.
-fn assert_foreseen(
-    rt: &(impl Abort + AllocGlobal),
-    seed: u32,
-    desk: &mut MemDesk,
-) -> Result<(), Fail> {
+fn assert_foreseen(rt: &impl Tester, seed: u32, desk: &mut MemDesk) -> Result<(), Fail> {
     let (plan, script) = drawn_by(rt.alloc(), seed, desk)?;
     assert_all_done(rt, desk)?;
     let states = states_by(rt.alloc(), &plan, &script)?;

@@ -2,8 +2,7 @@
 
 use super::desk::HEADER;
 use super::faults::{Faults, assert_faults};
-use super::rows::{Faulty, Form, Table, Wrong, assert_faulty, assert_rows, assert_wrong_words};
-use packet_store::StoreKind;
+use super::rows::{Form, Table, assert_rows};
 use std::test::Fail;
 
 /// The words but for the window.
@@ -42,41 +41,12 @@ static WHOLE: [&str; 15] = [
 ];
 
 /// Stores that end inside their last packet, what stands of each, and the byte at which that packet begins.
-static CUT: [Faulty; 5] = [
-    ("FIRST THIRD SECOND 00 64|B0 B1||1", 28, StoreKind::Cut),
-    (
-        "FIRST THIRD SECOND 00 64|B0 B1|1,1,lost,0\n|0",
-        28,
-        StoreKind::Cut,
-    ),
-    ("FIRST THIRD SECOND 00 64|B0||2", 28, StoreKind::Cut),
-    ("FIRST THIRD SECOND 00 64|||3", 28, StoreKind::Cut),
-    ("00 64|||5", 0, StoreKind::Cut),
-];
-
-/// Lines of words, and the place of the first wrong word in each.
-static WRONG_WORDS: [Wrong; 18] = [
-    ("late", 1),
-    ("late out=b report=c bits=8 apid=1 window=1", 6),
-    ("late in=a report=c bits=8 apid=1 window=1", 6),
-    ("late in=a out=b bits=8 apid=1 window=1", 6),
-    ("late in=a out=b report=c apid=1 window=1", 6),
-    ("late in=a out=b report=c bits=8 window=1", 6),
-    ("late in=a out=b report=c bits=8 apid=1", 6),
-    ("late in=a out=b report=c bits=8 apid=1 window=65", 6),
-    (
-        "late in=a out=b report=c bits=8 apid=1 window=1 window=1",
-        7,
-    ),
-    ("late window=01", 1),
-    ("late window=-1", 1),
-    ("late window=", 1),
-    ("late apid=2047", 1),
-    ("late bits=0", 1),
-    ("late plan=s", 1),
-    ("late in=a out=a", 2),
-    ("restore window=1", 1),
-    ("lates", 0),
+static CUT: [&str; 5] = [
+    "cut 28: FIRST THIRD SECOND 00 64|B0 B1||1",
+    "cut 28: FIRST THIRD SECOND 00 64|B0 B1|1,1,lost,0\n|0",
+    "cut 28: FIRST THIRD SECOND 00 64|B0||2",
+    "cut 28: FIRST THIRD SECOND 00 64|||3",
+    "cut 0: 00 64|||5",
 ];
 
 /// The packets of the first order, which end at the bytes 10, 18, 28 and 37.
@@ -117,15 +87,10 @@ fn late_packets(rt: HostRuntime) -> Result<(), Fail> {
 
 #[test]
 fn cut_stores_of_late_packets(rt: HostRuntime) -> Result<(), Fail> {
-    assert_faulty(&rt, &ORDERS, &CUT)
+    assert_rows(&rt, &ORDERS, &CUT)
 }
 
 #[test]
 fn late_packets_at_each_fault(rt: HostRuntime) -> Result<(), Fail> {
     assert_faults(&rt, &FAILING)
-}
-
-#[test]
-fn words_of_late(rt: HostRuntime) -> Result<(), Fail> {
-    assert_wrong_words(&rt, &WRONG_WORDS)
 }

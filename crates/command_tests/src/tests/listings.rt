@@ -1,9 +1,8 @@
 //! Listings of worked stores, in whole reads and writes and in those of one byte.
 
-use super::desk::{LIST, assert_both, done, with_input};
-use super::rows::{Faulty, Form, Table, assert_faulty, assert_rows};
+use super::desk::{LIST, assert_in_pieces, done, with_input};
+use super::rows::{Form, Table, assert_rows};
 use super::samples::{LISTING, PLAYED};
-use packet_store::StoreKind;
 use std::test::Fail;
 
 /// Stores and their listings.
@@ -56,19 +55,15 @@ static OTHERS: [&str; 2] = [
 ];
 
 /// Stores, the packet at which each is wrong and how, and the lines that stand before it.
-static FAULTY: [Faulty; 3] = [
-    ("FIRST 00 64 C0|0 written 1 00 00 b0\n", 10, StoreKind::Cut),
-    ("20 64 C0 00 00 00 00", 0, StoreKind::Version),
-    (
-        "00 64 C0 05 00 00 82 18 64 C0 00 00 09 82|0-4 lost\n5 unsynced\n",
-        7,
-        StoreKind::Shape,
-    ),
+static FAULTY: [&str; 3] = [
+    "cut 10: FIRST 00 64 C0|0 written 1 00 00 b0\n",
+    "version 0: 20 64 C0 00 00 00 00",
+    "shape 7: 00 64 C0 05 00 00 82 18 64 C0 00 00 09 82|0-4 lost\n5 unsynced\n",
 ];
 
 #[test]
 fn listings(rt: HostRuntime) -> Result<(), Fail> {
-    assert_both(&rt, with_input(LIST, PLAYED), &done(LISTING, &[]))?;
+    assert_in_pieces(&rt, with_input(LIST, PLAYED), &done(LISTING, &[]))?;
     assert_rows(&rt, &STORES, &EIGHT_BITS)?;
     let words = "show ";
     assert_rows(&rt, &Table { words, ..STORES }, &OTHERS)
@@ -76,5 +71,5 @@ fn listings(rt: HostRuntime) -> Result<(), Fail> {
 
 #[test]
 fn faulty_listings(rt: HostRuntime) -> Result<(), Fail> {
-    assert_faulty(&rt, &STORES, &FAULTY)
+    assert_rows(&rt, &STORES, &FAULTY)
 }

@@ -1,10 +1,9 @@
 //! Long recordings and large packets through the commands.
 
 use super::chain::{Chain, assert_listed, assert_there_and_back, assert_whole_chain};
-use super::desk::new_desk;
+use super::desk::{Tester, new_desk};
 use desk_ports::MemDesk;
 use std::alloc::{AllocError, Global};
-use std::process::Abort;
 use std::test::Fail;
 
 /// So many packets of zeros, of which the last stands alone and those before it are lost.
@@ -99,11 +98,7 @@ fn packets_of_the_most_bits(rt: HostRuntime) -> Result<(), Fail> {
 }
 
 /// Such a recording goes there and back, and its store is as long as this.
-fn assert_largest(
-    rt: &(impl Abort + AllocGlobal),
-    chain: &Chain<'_>,
-    desk: &mut MemDesk,
-) -> Result<(), Fail> {
+fn assert_largest(rt: &impl Tester, chain: &Chain<'_>, desk: &mut MemDesk) -> Result<(), Fail> {
     assert_there_and_back(rt, chain, desk)?;
     assert_headers(rt, desk.get("store"));
     assert_listed(rt, chain, desk, &largest_listing(rt.alloc())?)
@@ -135,7 +130,7 @@ fn push_vector(text: &mut Vec<u8>, digits: &str) -> Result<(), AllocError> {
     Ok(())
 }
 
-fn assert_headers(rt: &impl Abort, store: &[u8]) {
+fn assert_headers(rt: &impl Tester, store: &[u8]) {
     assert_eq!(rt; store.len(), 43_031);
     assert_eq!(rt; &store[..6], FIRST_HEADER);
     assert_eq!(rt; &store[6155..6161], SECOND_HEADER);

@@ -1,10 +1,12 @@
 //! Stores of several streams that are mixed by chance, beside each stream alone.
 
-use super::desk::{HEADER, assert_done, assert_ending, bytes_of, done, hold, new_desk, with_input};
+use super::desk::{
+    HEADER, Tester, assert_done, assert_ending, bytes_of, done, hold, new_desk, with_input,
+};
+use super::draws::Draws;
 use super::streams::MULTI;
 use desk_ports::{MemDesk, Outlet};
 use std::alloc::{AllocError, Global};
-use std::process::Abort;
 use std::test::Fail;
 
 /// The packets of the worked recording, without their APIDs.
@@ -21,25 +23,17 @@ static APIDS: [u8; 3] = [100, 101, 102];
 /// How often a packet arrives, by what is drawn.
 static TIMES: [u8; 6] = [0, 2, 1, 1, 1, 1];
 
-/// What is drawn next: a number that the one before gives.
-fn next_draw(state: u64) -> u64 {
-    state
-        .wrapping_mul(6_364_136_223_846_793_005)
-        .wrapping_add(1_442_695_040_888_963_407)
-}
-
 /// Streams that are mixed by numbers from a seed, each with the number of its next packet.
 #[derive(Clone, Copy)]
 struct Mixed {
-    state: u64,
+    draws: Draws,
     numbers: [u8; 3],
 }
 
 impl Mixed {
     /// The APID of the next packet, its bytes, and how often it arrives.
     fn next(&mut self) -> (u8, &'static str, u8) {
-        self.state = next_draw(self.state);
-        let drawn = (self.state >> 33) as usize;
+        let drawn = self.draws.number() as usize;
         let stream = drawn % 3;
         let number = self.numbers[stream];
         let times = TIMES[drawn / 3 % 6];
@@ -53,26 +47,19 @@ impl Mixed {
 
 /// A store of three streams that are mixed by numbers from a seed, some packets dropped and some repeated; or of the packets
 /// of one of them alone.
-fn mixed_store(alloc: Global, seed: u64, only: Option<u8>) -> Result<Vec<u8>, AllocError> {
+fn mixed_store(alloc: Global, seed: u32, only: Option<u8>) -> Result<Vec<u8>, AllocError> {
     let mut store = Vec::new(alloc);
     let mut streams = Mixed {
-        state: seed,
+        draws: Draws { state: seed },
         numbers: [0; 3],
     };
     for _ in 0..60 {
         let (apid, packet, times) = streams.next();
-        let times = if is_wanted(only, apid) { times } else { 0 };
-        put_packets(alloc, &mut store, apid, packet, times)?;
+        if only.unwrap_or(apid) == apid {
+            put_packets(alloc, &mut store, apid, packet, times)?;
+        }
     }
     Ok(store)
-}
-
-/// Whether an APID is the wanted one, or all are.
-fn is_wanted(only: Option<u8>, apid: u8) -> bool {
-    match only {
-        None => true,
-        Some(wanted) => wanted == apid,
-    }
 }
 
 /// Appends a packet so many times.
@@ -84,20 +71,10 @@ fn put_packets(
     times: u8,
 ) -> Result<(), AllocError> {
     for _ in 0..times {
-        put_packet(alloc, store, apid, packet)?;
+        store.extend_from_slice(&[0x00, apid])?;
+        store.extend_from_slice(&bytes_of(alloc, packet)?)?;
     }
     Ok(())
-}
-
-/// Appends a packet.
-fn put_packet(
-    alloc: Global,
-    store: &mut Vec<u8>,
-    apid: u8,
-    packet: &str,
-) -> Result<(), AllocError> {
-    store.extend_from_slice(&[0x00, apid])?;
-    store.extend_from_slice(&bytes_of(alloc, packet)?)
 }
 
 /// The contents on an APID in a store whose packets have one byte of data each.
@@ -125,44 +102,24 @@ fn rows_on(alloc: Global, report: &[u8], apid: u8) -> Result<String, AllocError>
 }
 
 /// Holds a mixed store and its streams.
-fn hold_mixed(alloc: Global, seed: u64, desk: &mut MemDesk) -> Result<(), Fail> {
+fn hold_mixed(alloc: Global, seed: u32, desk: &mut MemDesk) -> Result<(), Fail> {
     let store = mixed_store(alloc, seed, None)?;
     hold(desk, "a", &store)?;
     Ok(hold(desk, "s", b"101,8\n100,8\n102,8\n")?)
 }
 
-/// What `restore` makes of the packets of one stream alone.
-fn assert_alone(
-    rt: &(impl Abort + AllocGlobal),
-    alone: &[u8],
-    words: &str,
-    contents: &[u8],
-    rows: &str,
-) -> Result<(), Fail> {
-    let wanted = done(contents, rows.as_bytes());
-    assert_ending(rt, &with_input(words, alone), &wanted)
-}
-
-/// The output and the report of a stream are those of its packets alone.
-fn assert_stream(
-    rt: &(impl Abort + AllocGlobal),
-    desk: &MemDesk,
-    seed: u64,
-    apid: u8,
-) -> Result<(), Fail> {
+/// The output and the report of a stream are those that `restore` makes of its packets alone.
+fn assert_stream(rt: &impl Tester, desk: &MemDesk, seed: u32, apid: u8) -> Result<(), Fail> {
     let alone = mixed_store(rt.alloc(), seed, Some(apid))?;
     let contents = contents_on(rt.alloc(), desk.seen(Outlet::Main), apid)?;
     let rows = rows_on(rt.alloc(), desk.seen(Outlet::Report), apid)?;
     let words = format!(in rt.alloc(); "restore in=a out=b report=c bits=8 apid={apid}")?;
-    assert_alone(rt, &alone, &words, &contents, &rows)
+    let wanted = done(&contents, rows.as_bytes());
+    assert_ending(rt, &with_input(&words, &alone), &wanted)
 }
 
 /// What `multi` makes of a mixed store has of each stream what `restore` makes of its packets alone.
-fn assert_apart(
-    rt: &(impl Abort + AllocGlobal),
-    seed: u64,
-    desk: &mut MemDesk,
-) -> Result<(), Fail> {
+fn assert_apart(rt: &impl Tester, seed: u32, desk: &mut MemDesk) -> Result<(), Fail> {
     hold_mixed(rt.alloc(), seed, desk)?;
     assert_done(rt, MULTI, desk)?;
     for apid in &APIDS {

@@ -1,9 +1,8 @@
 //! Worked scripts over stores, and stores that are refused.
 
 use super::desk::BY_SCRIPT;
-use super::rows::{Faulty, Form, Table, assert_faulty, assert_rows};
+use super::rows::{Form, Table, assert_rows};
 use super::samples::PLAY_HEADER;
-use packet_store::StoreKind;
 use std::test::Fail;
 
 /// Stores, what is played, the report after its first line, and the script.
@@ -36,44 +35,20 @@ static WHOLE: [&str; 11] = [
 ];
 
 /// Of a store that is wrong, the packets before the fault are played, and nothing is reported.
-static FAULTY: [Faulty; 6] = [
-    (
-        "FIRST 00 64 C0|FIRST FIRST|||repeat,0,0,1,1",
-        10,
-        StoreKind::Cut,
-    ),
-    (
-        "IDLE FIRST SECOND 07 FF C0 00 00 01 00|IDLE FIRST FIRST SECOND|||repeat,0,0,1,1",
-        27,
-        StoreKind::Cut,
-    ),
+static FAULTY: [&str; 6] = [
+    "cut 10: FIRST 00 64 C0|FIRST FIRST|||repeat,0,0,1,1",
+    "cut 27: IDLE FIRST SECOND 07 FF C0 00 00 01 00|IDLE FIRST FIRST SECOND|||repeat,0,0,1,1",
     // Another version is refused on another APID too.
-    (
-        "FIRST 27 FF C0 00 00 00 00|FIRST FIRST|||repeat,0,0,1,1",
-        10,
-        StoreKind::Version,
-    ),
-    (
-        "IDLE 10 64 C0 00 00 00 82|IDLE|||repeat,0,0,1,1",
-        7,
-        StoreKind::Shape,
-    ),
-    (
-        "FIRST SECOND 08 64 C0 02 00 00 82|FIRST FIRST SECOND|||repeat,0,0,1,1",
-        20,
-        StoreKind::Shape,
-    ),
+    "version 10: FIRST 27 FF C0 00 00 00 00|FIRST FIRST|||repeat,0,0,1,1",
+    "shape 7: IDLE 10 64 C0 00 00 00 82|IDLE|||repeat,0,0,1,1",
+    "shape 20: FIRST SECOND 08 64 C0 02 00 00 82|FIRST FIRST SECOND|||repeat,0,0,1,1",
     // The shape is looked at before the length.
-    (
-        "FIRST 00 64 80 01 00 09 82 IDLE|FIRST FIRST|||repeat,0,0,1,1",
-        10,
-        StoreKind::Shape,
-    ),
+    "shape 10: FIRST 00 64 80 01 00 09 82 IDLE|FIRST FIRST|||repeat,0,0,1,1",
 ];
 
 #[test]
 fn played_stores(rt: HostRuntime) -> Result<(), Fail> {
     assert_rows(&rt, &STORES, &WHOLE)?;
     let header = "";
-    assert_faulty(&rt, &Table { header, ..STORES }, &FAULTY)
+    assert_rows(&rt, &Table { header, ..STORES }, &FAULTY)
 }

@@ -1,7 +1,7 @@
 //! Inputs that are read ahead: packets that lie across the end of what is ahead.
 
 use super::chain::{Chain, assert_whole_chain};
-use super::desk::{BY_SCRIPT, EIGHT_BITS, assert_both, bytes_of, done, with_both, with_input};
+use super::desk::{BY_SCRIPT, EIGHT_BITS, assert_in_pieces, bytes_of, done, with_both, with_input};
 use super::samples::{FIRST, FOURTH, REPORT, RESTORED, SECOND};
 use std::alloc::{AllocError, Global};
 use std::test::Fail;
@@ -36,10 +36,10 @@ fn with_long_packets(alloc: Global) -> Result<Vec<u8>, AllocError> {
 fn packets_of_the_longest_data(rt: HostRuntime) -> Result<(), Fail> {
     let store = with_long_packets(rt.alloc())?;
     assert_eq!(rt; store.len(), 262_197);
-    assert_both(&rt, with_input(EIGHT_BITS, &store), &done(RESTORED, REPORT))?;
+    assert_in_pieces(&rt, with_input(EIGHT_BITS, &store), &done(RESTORED, REPORT))?;
     let report = b"packets,delivered,dropped,repeats,first,widest\n3,3,0,0,0,1\n";
     let case = with_both(BY_SCRIPT, &store, b"");
-    assert_both(&rt, case, &done(&store, report))
+    assert_in_pieces(&rt, case, &done(&store, report))
 }
 
 /// Packets of 6,144 bytes, each with its number at its front: the 22nd lies across the byte 131,072.

@@ -1,7 +1,6 @@
 //! Worked recordings with their stores, and recordings that are refused.
 
-use super::rows::{Form, Refused, Table, assert_refusals, assert_rows};
-use pocket_cmd::Refusal;
+use super::rows::{Form, Table, assert_rows};
 use std::test::Fail;
 
 /// Recordings and their stores.
@@ -54,23 +53,14 @@ static OTHERS: [&str; 4] = [
 
 /// Recordings of packets of 13 bits, of which the last packet is cut, or one has a spare bit: what comes first decides, and
 /// the packets before it stand.
-static FAULTY: [Refused; 7] = [
-    ("12||||", Refusal::CutRecord { t: 0 }),
-    ("12 34||||", Refusal::SpareBit { t: 0 }),
-    ("12 39||||", Refusal::SpareBit { t: 0 }),
-    ("12 34 12||||", Refusal::SpareBit { t: 0 }),
-    (
-        "12 38 12|00 64 C0 00 00 03 81 B9 62 47|||",
-        Refusal::CutRecord { t: 1 },
-    ),
-    (
-        "12 38 12 34|00 64 C0 00 00 03 81 B9 62 47|||",
-        Refusal::SpareBit { t: 1 },
-    ),
-    (
-        "12 38 12 3C 12|00 64 C0 00 00 03 81 B9 62 47|||",
-        Refusal::SpareBit { t: 1 },
-    ),
+static FAULTY: [&str; 7] = [
+    "record 0: 12||||",
+    "spare 0: 12 34||||",
+    "spare 0: 12 39||||",
+    "spare 0: 12 34 12||||",
+    "record 1: 12 38 12|00 64 C0 00 00 03 81 B9 62 47|||",
+    "spare 1: 12 38 12 34|00 64 C0 00 00 03 81 B9 62 47|||",
+    "spare 1: 12 38 12 3C 12|00 64 C0 00 00 03 81 B9 62 47|||",
 ];
 
 #[test]
@@ -79,5 +69,5 @@ fn recordings(rt: HostRuntime) -> Result<(), Fail> {
     let words = "compress ";
     assert_rows(&rt, &Table { words, ..RUNS }, &OTHERS)?;
     let words = "compress in=a out=b bits=13 apid=100 robust=0";
-    assert_refusals(&rt, &Table { words, ..RUNS }, &FAULTY)
+    assert_rows(&rt, &Table { words, ..RUNS }, &FAULTY)
 }

@@ -4,7 +4,6 @@ use super::desk::words_of;
 use desk_ports::QuietDesk;
 use pocket_cmd::{Status, rehearse};
 use std::alloc::{AllocError, Global};
-use std::process::Abort;
 use std::test::Fail;
 
 /// The store of one packet of eight bits.
@@ -17,13 +16,8 @@ fn quiet_desk() -> QuietDesk<'static> {
 
 fn answer(alloc: Global) -> Result<Status, AllocError> {
     let words = words_of(alloc, "play in=a out=b report=c apid=100 script=s")?;
-    let mut desk = quiet_desk();
-    Ok(rehearsed(alloc, &words, &mut desk))
-}
-
-fn rehearsed(alloc: Global, words: &[String], desk: &mut QuietDesk<'_>) -> Status {
     let few = words.len().min(1000);
-    rehearse(alloc, &words[..few], desk)
+    Ok(rehearse(alloc, &words[..few], &mut quiet_desk()))
 }
 
 #[test]

@@ -1,8 +1,7 @@
 //! Recordings of few packets through the three commands, one of them in reads and writes of one byte too.
 
 use super::chain::{Chain, assert_chain, assert_whole_chain};
-use super::desk::{by_single_bytes, bytes_of, new_desk};
-use std::process::Abort;
+use super::desk::{Tester, bytes_of, in_pieces, new_desk};
 use std::test::Fail;
 
 /// One packet is lost, which the level of the next reaches over.
@@ -48,7 +47,7 @@ static CHAINS: [&str; 16] = [
 ];
 
 /// The chain of a row goes there and back; or, by single bytes, there.
-fn assert_row(rt: &(impl Abort + AllocGlobal), row: &str, single: bool) -> Result<(), Fail> {
+fn assert_row(rt: &impl Tester, row: &str, single: bool) -> Result<(), Fail> {
     let mut fields = row.split('|');
     let recording = bytes_of(rt.alloc(), fields.next().unwrap_or(""))?;
     let restored = bytes_of(rt.alloc(), fields.next().unwrap_or(""))?;
@@ -70,9 +69,9 @@ fn assert_row(rt: &(impl Abort + AllocGlobal), row: &str, single: bool) -> Resul
     }
 }
 
-fn assert_by_single_bytes(rt: &(impl Abort + AllocGlobal), chain: &Chain<'_>) -> Result<(), Fail> {
+fn assert_by_single_bytes(rt: &impl Tester, chain: &Chain<'_>) -> Result<(), Fail> {
     let mut desk = new_desk(rt.alloc());
-    by_single_bytes(&mut desk);
+    in_pieces(&mut desk, 1);
     assert_chain(rt, chain, &mut desk)
 }
 

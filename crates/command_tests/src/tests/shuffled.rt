@@ -1,26 +1,20 @@
 //! Stores that are shuffled within a window, beside the same stores in order.
 
 use super::desk::{
-    EIGHT_BITS, assert_done, assert_ending, done, hold, joined, new_desk, with_input,
+    EIGHT_BITS, Tester, assert_done, assert_ending, done, hold, joined, new_desk, with_input,
 };
+use super::draws::Draws;
 use super::late::LATE;
 use desk_ports::MemDesk;
 use std::alloc::{AllocError, Global};
-use std::process::Abort;
 use std::test::Fail;
 
-/// A draw from 0 up, below this number.
-fn draw(seed: &mut u32, below: u32) -> u32 {
-    *seed = seed.wrapping_mul(1_664_525).wrapping_add(1_013_904_223);
-    (*seed >> 16).checked_rem(below).unwrap_or(0)
-}
-
 /// A recording of as many packets of eight bits, of which each changes at a drawn place.
-fn drawn_recording(alloc: Global, seed: &mut u32, count: u32) -> Result<Vec<u8>, AllocError> {
+fn drawn_recording(alloc: Global, draws: &mut Draws, count: u32) -> Result<Vec<u8>, AllocError> {
     let mut recording = Vec::new(alloc);
     let mut packet = 0u8;
     for _made in 0..count {
-        packet ^= 1u8.rotate_left(draw(seed, 3));
+        packet ^= 1u8.rotate_left(draws.below(3));
         recording.push(packet)?;
     }
     Ok(recording)
@@ -46,16 +40,7 @@ fn offsets_of(alloc: Global, store: &[u8], count: u32) -> Result<Vec<usize>, All
     Ok(offsets)
 }
 
-/// The numbers from 0 up.
-fn numbers(alloc: Global, count: u32) -> Result<Vec<u32>, AllocError> {
-    let mut order = Vec::new(alloc);
-    for number in 0..count {
-        order.push(number)?;
-    }
-    Ok(order)
-}
-
-/// Swaps two of them, if both are there.
+/// Swaps two numbers, if both are there.
 fn swap(order: &mut [u32], one: u32, other: u32) {
     let (one, other) = (one as usize, other as usize);
     if one < order.len() && other < order.len() {
@@ -64,11 +49,16 @@ fn swap(order: &mut [u32], one: u32, other: u32) {
 }
 
 /// The numbers below `count`, in blocks of `size` each of which is shuffled, so that none comes late by more than `size - 1`.
-fn shuffled(alloc: Global, seed: &mut u32, count: u32, size: u32) -> Result<Vec<u32>, AllocError> {
-    let mut order = numbers(alloc, count)?;
+fn shuffled(
+    alloc: Global,
+    draws: &mut Draws,
+    count: u32,
+    size: u32,
+) -> Result<Vec<u32>, AllocError> {
+    let mut order: Vec<u32> = (0..count).collect(alloc)?;
     for number in 0..count {
         let place = number.checked_rem(size).unwrap_or(0);
-        let other = draw(seed, place.saturating_add(1));
+        let other = draws.below(place.saturating_add(1));
         swap(
             &mut order,
             number,
@@ -99,58 +89,15 @@ fn reordered(
 }
 
 /// The store of a recording.
-fn store_of(rt: &(impl Abort + AllocGlobal), recording: &[u8]) -> Result<Vec<u8>, Fail> {
-    let mut desk = new_desk(rt.alloc());
-    compressed(rt, recording, &mut desk)
-}
-
-/// The same, at a desk.
-fn compressed(
-    rt: &(impl Abort + AllocGlobal),
-    recording: &[u8],
-    desk: &mut MemDesk,
-) -> Result<Vec<u8>, Fail> {
+fn store_of(rt: &impl Tester, recording: &[u8], desk: &mut MemDesk) -> Result<Vec<u8>, Fail> {
     hold(desk, "a", recording)?;
     assert_done(rt, "compress in=a out=b bits=8 apid=100 robust=2", desk)?;
-    let mut store = Vec::new(rt.alloc());
-    store.extend_from_slice(desk.get("b"))?;
-    Ok(store)
-}
-
-/// A report, and the row of no packet that came too late.
-fn with_none_late(alloc: Global, report: &[u8]) -> Result<Vec<u8>, AllocError> {
-    let mut all = Vec::new(alloc);
-    all.extend_from_slice(report)?;
-    all.extend_from_slice(b"late,0\n")?;
-    Ok(all)
-}
-
-/// What `late` gives of a shuffled store must be this.
-fn assert_late(
-    rt: &(impl Abort + AllocGlobal),
-    window: &str,
-    late: &[u8],
-    restored: &[u8],
-    report: &[u8],
-) -> Result<(), Fail> {
-    let words = joined(rt.alloc(), LATE, window)?;
-    let wanted = done(restored, report);
-    assert_ending(rt, &with_input(&words, late), &wanted)
+    Ok(Vec::from_slice(rt.alloc(), desk.get("b"))?)
 }
 
 /// What `late` gives of a shuffled store must be what `restore` gives of the store in order, and no packet too late.
 fn assert_same(
-    rt: &(impl Abort + AllocGlobal),
-    window: &str,
-    store: &[u8],
-    late: &[u8],
-) -> Result<(), Fail> {
-    let mut desk = new_desk(rt.alloc());
-    assert_same_at(rt, window, store, late, &mut desk)
-}
-
-fn assert_same_at(
-    rt: &(impl Abort + AllocGlobal),
+    rt: &impl Tester,
     window: &str,
     store: &[u8],
     late: &[u8],
@@ -158,36 +105,33 @@ fn assert_same_at(
 ) -> Result<(), Fail> {
     hold(desk, "a", store)?;
     assert_done(rt, EIGHT_BITS, desk)?;
-    let report = with_none_late(rt.alloc(), desk.get("c"))?;
-    assert_late(rt, window, late, desk.get("b"), &report)
+    let mut report = Vec::from_slice(rt.alloc(), desk.get("c"))?;
+    report.extend_from_slice(b"late,0\n")?;
+    let words = joined(rt.alloc(), LATE, window)?;
+    let wanted = done(desk.get("b"), &report);
+    assert_ending(rt, &with_input(&words, late), &wanted)
 }
 
 /// The packets of a store in a drawn order.
 fn drawn_order(
     alloc: Global,
     store: &[u8],
-    seed: u32,
+    draws: &mut Draws,
     count: u32,
     size: u32,
 ) -> Result<Vec<u8>, AllocError> {
-    let mut seed = seed;
     let offsets = offsets_of(alloc, store, count)?;
-    let order = shuffled(alloc, &mut seed, count, size)?;
+    let order = shuffled(alloc, draws, count, size)?;
     reordered(alloc, store, &offsets, &order)
 }
 
 /// A drawn store that is shuffled within a window.
-fn assert_shuffled(
-    rt: &(impl Abort + AllocGlobal),
-    window: &str,
-    size: u32,
-    seed: u32,
-) -> Result<(), Fail> {
-    let mut draws = seed;
+fn assert_shuffled(rt: &impl Tester, window: &str, size: u32, seed: u32) -> Result<(), Fail> {
+    let mut draws = Draws { state: seed };
     let recording = drawn_recording(rt.alloc(), &mut draws, 300)?;
-    let store = store_of(rt, &recording)?;
-    let late = drawn_order(rt.alloc(), &store, draws, 300, size)?;
-    assert_same(rt, window, &store, &late)
+    let store = store_of(rt, &recording, &mut new_desk(rt.alloc()))?;
+    let late = drawn_order(rt.alloc(), &store, &mut draws, 300, size)?;
+    assert_same(rt, window, &store, &late, &mut new_desk(rt.alloc()))
 }
 
 /// Windows, the sizes of the blocks that are shuffled, and seeds.

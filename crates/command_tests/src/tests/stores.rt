@@ -1,8 +1,7 @@
 //! Worked stores, in whole reads and writes and in those of one byte.
 
 use super::desk::{EIGHT_BITS, HEADER};
-use super::rows::{Faulty, Form, Table, assert_faulty, assert_rows};
-use packet_store::StoreKind;
+use super::rows::{Form, Table, assert_rows};
 use std::test::Fail;
 
 /// Stores, the packets that are restored, and the report.
@@ -53,14 +52,14 @@ static OTHERS: [&str; 2] = [
 ];
 
 /// Stores, the packet at which each is wrong and how, and the packets that stand before it.
-static FAULTY: [Faulty; 6] = [
-    ("00 64 C0 00 00 03 85 B8 D6", 0, StoreKind::Cut),
-    ("FIRST 00 64 C0|B0", 10, StoreKind::Cut),
-    ("00 64 C0 00 00 03 85", 0, StoreKind::Cut),
-    ("20 64 C0 00 00 00 00", 0, StoreKind::Version),
-    ("00 64 00 00 00 00 82", 0, StoreKind::Shape),
+static FAULTY: [&str; 6] = [
+    "cut 0: 00 64 C0 00 00 03 85 B8 D6",
+    "cut 10: FIRST 00 64 C0|B0",
+    "cut 0: 00 64 C0 00 00 03 85",
+    "version 0: 20 64 C0 00 00 00 00",
+    "shape 0: 00 64 00 00 00 00 82",
     // Another version is refused on another APID too, and the shape before the length is looked at.
-    ("FIRST 18 64 C0 00 00 09 82|B0", 10, StoreKind::Shape),
+    "shape 10: FIRST 18 64 C0 00 00 09 82|B0",
 ];
 
 #[test]
@@ -72,5 +71,5 @@ fn whole_stores(rt: HostRuntime) -> Result<(), Fail> {
 
 #[test]
 fn faulty_stores(rt: HostRuntime) -> Result<(), Fail> {
-    assert_faulty(&rt, &STORES, &FAULTY)
+    assert_rows(&rt, &STORES, &FAULTY)
 }

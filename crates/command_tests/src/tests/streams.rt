@@ -1,11 +1,8 @@
 //! Worked stores of several streams, the rules of their side texts, and what stands if a call fails.
 
-use super::desk::{assert_both, done, front, refused, with_both};
+use super::desk::{assert_in_pieces, done, with_both};
 use super::faults::{Faults, assert_faults};
-use super::rows::{
-    Form, Table, Wrong, assert_refused, assert_rows, assert_wrong_sides, assert_wrong_words,
-};
-use packet_store::StoreKind;
+use super::rows::{Form, Table, Wrong, assert_refused, assert_rows, assert_wrong_sides};
 use pocket_cmd::Refusal;
 use std::alloc::{AllocError, Global};
 use std::test::Fail;
@@ -69,15 +66,16 @@ static WHOLE: [&str; 9] = [
         100,0,16382,lost,0\n100,end,2,2,0\nshape,0\n||100,8",
 ];
 
-/// How many bytes of the store there are, the byte of the packet that is cut, and how many bytes of the output and of
-/// the report stand.
-static CUTS: [(usize, u64, usize, usize); 6] = [
-    (1, 0, 0, 28),
-    (9, 0, 0, 28),
-    (12, 10, 7, 28),
-    (16, 10, 7, 28),
-    (23, 17, 7, 62),
-    (30, 24, 14, 62),
+/// The same store, cut inside a packet.
+static CUT: [&str; 6] = [
+    "cut 0: 00||||100,8\n101,8\n",
+    "cut 0: 00 64 C0 00 00 03 85 B8 D6||||100,8\n101,8\n",
+    "cut 10: FIRST 00 65|00 64 C0 00 00 00 B0|||100,8\n101,8\n",
+    "cut 10: FIRST 00 65 C0 05 00 00|00 64 C0 00 00 00 B0|||100,8\n101,8\n",
+    "cut 17: FIRST 00 65 C0 05 00 00 82 00 64 C0 01 00 00|00 64 C0 00 00 00 B0|\
+        101,0,4,lost,0\n101,5,5,unsynced,0\n||100,8\n101,8\n",
+    "cut 24: FIRST 00 65 C0 05 00 00 82 COUNT_1 00 65 00 00 00 00|00 64 C0 00 00 00 B0 00 64 C0 01 00 00 B0|\
+        101,0,4,lost,0\n101,5,5,unsynced,0\n||100,8\n101,8\n",
 ];
 
 /// Side texts, and the first row of each that is wrong.
@@ -98,23 +96,6 @@ static WRONG: [Wrong; 16] = [
     ("100,8\n101,", 2),
     ("100,8\n\n101,8\n,8", 3),
     ("100,8\n101,8\n102,8\n101,8\n", 4),
-];
-
-/// Lines of words, and the place of the first wrong word in each.
-static WRONG_WORDS: [Wrong; 13] = [
-    ("multi", 1),
-    ("multi out=b report=c streams=s", 4),
-    ("multi in=a report=c streams=s", 4),
-    ("multi in=a out=b streams=s", 4),
-    ("multi in=a out=b report=c", 4),
-    ("multi in=a out=b report=c streams=s bits=8", 5),
-    ("multi in=a out=b report=c streams=s apid=1", 5),
-    ("multi streams=", 1),
-    ("multi in=a streams=a out=b report=c", 2),
-    ("multi in=a streams=s out=s report=c", 3),
-    ("multi in=a streams=s out=b report=b", 4),
-    ("multi in=- streams=- out=b report=c", 2),
-    ("restore streams=s", 1),
 ];
 
 /// The calls that fail. The header has 5 and 23 bytes, a packet 7, an APID with its comma 4, the first two rows 11 and 15,
@@ -139,16 +120,7 @@ static FAILING: [Faults; 1] = [Faults {
 #[test]
 fn stores_of_streams(rt: HostRuntime) -> Result<(), Fail> {
     assert_rows(&rt, &STORES, &WHOLE)?;
-    for (length, byte, output, report) in CUTS {
-        let store = front(STORE, length);
-        let refusal = Refusal::BadStore {
-            byte,
-            kind: StoreKind::Cut,
-        };
-        let wanted = refused(refusal, front(RESTORED, output), front(REPORT, report));
-        assert_both(&rt, with_both(MULTI, store, TWO_STREAMS), &wanted)?;
-    }
-    Ok(())
+    assert_rows(&rt, &STORES, &CUT)
 }
 
 #[test]
@@ -158,8 +130,7 @@ fn streams_at_each_fault(rt: HostRuntime) -> Result<(), Fail> {
 
 #[test]
 fn rules_of_streams(rt: HostRuntime) -> Result<(), Fail> {
-    assert_wrong_sides(&rt, MULTI, &[], &WRONG)?;
-    assert_wrong_words(&rt, &WRONG_WORDS)
+    assert_wrong_sides(&rt, MULTI, &[], &WRONG)
 }
 
 /// The side text, the store, the output and the report of many streams, each with a packet.
@@ -195,7 +166,7 @@ fn many_streams(alloc: Global, count: u8) -> Result<Many, AllocError> {
 fn most_streams(rt: HostRuntime) -> Result<(), Fail> {
     let most = many_streams(rt.alloc(), 64)?;
     let case = with_both(MULTI, &most.store, most.streams.as_bytes());
-    assert_both(&rt, case, &done(&most.output, most.report.as_bytes()))?;
+    assert_in_pieces(&rt, case, &done(&most.output, most.report.as_bytes()))?;
     let more = many_streams(rt.alloc(), 66)?;
     let case = with_both(MULTI, &[], more.streams.as_bytes());
     assert_refused(&rt, case, Refusal::BadSide { row: 65 })

@@ -1,12 +1,8 @@
 //! Tables of worked recordings, the rules of their side texts, and what stands if a call fails.
 
-use super::desk::{answer, assert_both, done, hold, new_desk, with_both};
+use super::desk::{answer, assert_in_pieces, done, hold, new_desk, with_both};
 use super::faults::{Faults, assert_faults};
-use super::rows::{
-    Form, Refused, Table, Wrong, assert_refusals, assert_rows, assert_wrong_sides,
-    assert_wrong_words,
-};
-use desk_ports::MemDesk;
+use super::rows::{Form, Table, Wrong, assert_rows, assert_wrong_sides};
 use pocket_cmd::{Refusal, Status};
 use std::alloc::{AllocError, Global};
 use std::test::Fail;
@@ -63,16 +59,10 @@ static OF_THIRTEEN_BITS: [&str; 1] = [
 ];
 
 /// Recordings of packets of 13 bits, what is wrong with each, and the lines that stand before it.
-static FAULTY: [Refused; 3] = [
-    ("12|t,all\n|||field,0,13,u,all", Refusal::CutRecord { t: 0 }),
-    (
-        "12 38 12|t,all\n0,583\n|||field,0,13,u,all",
-        Refusal::CutRecord { t: 1 },
-    ),
-    (
-        "12 38 12 34 12 38|t,all\n0,583\n|||field,0,13,u,all",
-        Refusal::SpareBit { t: 1 },
-    ),
+static FAULTY: [&str; 3] = [
+    "record 0: 12|t,all\n|||field,0,13,u,all",
+    "record 1: 12 38 12|t,all\n0,583\n|||field,0,13,u,all",
+    "spare 1: 12 38 12 34 12 38|t,all\n0,583\n|||field,0,13,u,all",
 ];
 
 /// Side texts for packets of 16 bits that are right.
@@ -131,27 +121,6 @@ static WRONG: [Wrong; 42] = [
     ("field,0,1,u,x\nlimit,x,-99999999999999999999999,0\n", 2),
 ];
 
-/// Lines of words, and the place of the first wrong word in each.
-static WRONG_WORDS: [Wrong; 17] = [
-    ("table", 1),
-    ("table out=b report=c fields=s bits=8", 5),
-    ("table in=a report=c fields=s bits=8", 5),
-    ("table in=a out=b fields=s bits=8", 5),
-    ("table in=a out=b report=c bits=8", 5),
-    ("table in=a out=b report=c fields=s", 5),
-    ("table in=a out=b report=c fields=s bits=8 apid=1", 6),
-    ("table in=a out=b report=c fields=s bits=8 plan=p", 6),
-    ("table bits=0", 1),
-    ("table bits=49153", 1),
-    ("table bits=08", 1),
-    ("table fields=", 1),
-    ("table in=a fields=a out=b report=c bits=8", 2),
-    ("table in=a fields=s out=s report=c bits=8", 3),
-    ("table in=a fields=s out=b report=b bits=8", 4),
-    ("table in=- fields=- out=b report=c bits=8", 2),
-    ("restore fields=s", 1),
-];
-
 /// The calls that fail: the two lines that come first have 12 and 22 bytes, packet 0 a line of 8 and a row of 18, packet 1
 /// a line of 7, and the last row has 8.
 static FAILING: [Faults; 1] = [Faults {
@@ -172,11 +141,11 @@ static FAILING: [Faults; 1] = [Faults {
 #[test]
 fn tables(rt: HostRuntime) -> Result<(), Fail> {
     let worked = with_both(SIXTEEN_BITS, RECORDING, FIELDS);
-    assert_both(&rt, worked, &done(TABLE, REPORT))?;
+    assert_in_pieces(&rt, worked, &done(TABLE, REPORT))?;
     assert_rows(&rt, &RUNS, &WHOLE)?;
     let words = "table bits=13 fields=s report=c out=b in=a";
     assert_rows(&rt, &Table { words, ..RUNS }, &OF_THIRTEEN_BITS)?;
-    assert_refusals(&rt, &Table { words, ..RUNS }, &FAULTY)
+    assert_rows(&rt, &Table { words, ..RUNS }, &FAULTY)
 }
 
 #[test]
@@ -197,13 +166,9 @@ fn many_fields(alloc: Global, count: u32) -> Result<String, AllocError> {
 /// What is answered to a text with a recording of no bytes.
 fn answer_of(alloc: Global, text: &str) -> Result<Status, Fail> {
     let mut desk = new_desk(alloc);
-    answer_at(alloc, text, &mut desk)
-}
-
-fn answer_at(alloc: Global, text: &str, desk: &mut MemDesk) -> Result<Status, Fail> {
-    hold(desk, "a", &[])?;
-    hold(desk, "s", text.as_bytes())?;
-    Ok(answer(alloc, SIXTEEN_BITS, desk)?)
+    hold(&mut desk, "a", &[])?;
+    hold(&mut desk, "s", text.as_bytes())?;
+    Ok(answer(alloc, SIXTEEN_BITS, &mut desk)?)
 }
 
 #[test]
@@ -218,9 +183,4 @@ fn rules_of_fields(rt: HostRuntime) -> Result<(), Fail> {
     let refusal = Refusal::BadSide { row: 257 };
     assert_eq!(rt; answer_of(rt.alloc(), &more)?, Status::Refused(refusal));
     Ok(())
-}
-
-#[test]
-fn words_of_tables(rt: HostRuntime) -> Result<(), Fail> {
-    assert_wrong_words(&rt, &WRONG_WORDS)
 }

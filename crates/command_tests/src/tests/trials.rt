@@ -1,9 +1,8 @@
 //! Trials: a worked one, and many of which the summary is compared with what the trial holds.
 
-use super::desk::{assert_both, assert_done, done, new_desk, words_alone};
+use super::desk::{Tester, assert_done, assert_in_pieces, done, new_desk, words_alone};
 use desk_ports::{MemDesk, Outlet};
-use std::alloc::Global;
-use std::process::Abort;
+use std::alloc::{AllocError, Global};
 use std::test::Fail;
 use trial_chain::{Summary, run_trial};
 
@@ -15,11 +14,11 @@ pub const SUMMARY: &[u8] =
 
 #[test]
 fn a_trial(rt: HostRuntime) -> Result<(), Fail> {
-    assert_both(&rt, words_alone(THREE), &done(SUMMARY, &[]))
+    assert_in_pieces(&rt, words_alone(THREE), &done(SUMMARY, &[]))
 }
 
 /// Prints the summary of fifty packets of thirteen bits.
-fn print(rt: &(impl Abort + AllocGlobal), seed: u32, desk: &mut MemDesk) -> Result<(), Fail> {
+fn print(rt: &impl Tester, seed: u32, desk: &mut MemDesk) -> Result<(), Fail> {
     let line = format!(in rt.alloc(); "trial seed={seed} packets=50 bits=13 robust=2 out=summary")?;
     assert_done(rt, &line, desk)
 }
@@ -32,50 +31,56 @@ fn trial(alloc: Global, seed: u32) -> Result<(Summary, MemDesk), Fail> {
 }
 
 /// How many bytes are held under a name.
-fn size(held: &MemDesk, name: &str) -> usize {
-    held.get(name).len()
+fn size(held: &MemDesk, name: &str) -> u64 {
+    held.get(name).len() as u64
 }
 
-/// The lines that a trial must print, by its answer and by the lengths of what it holds.
-fn lines(alloc: Global, summary: &Summary, held: &MemDesk) -> Result<String, Fail> {
-    let recording = size(held, "recording");
-    let store = size(held, "store");
-    let played = size(held, "played");
-    let written = size(held, "restored") / 2;
-    let (delivered, listed) = (summary.delivered, summary.listed);
-    Ok(format!(in alloc;
-        "packets 50\nrecording {recording}\nstore {store}\nplayed {played}\ndelivered {delivered}\n\
+/// The answer of a trial with the lengths of what its desk holds.
+fn measured(summary: &Summary, held: &MemDesk) -> Summary {
+    Summary {
+        packets: 50,
+        recording: size(held, "recording"),
+        store: size(held, "store"),
+        played: size(held, "played"),
+        written: size(held, "restored") / 2,
+        ..*summary
+    }
+}
+
+/// The lines that a trial must print.
+fn lines(alloc: Global, summary: &Summary) -> Result<String, AllocError> {
+    let Summary {
+        packets,
+        recording,
+        store,
+        played,
+        delivered,
+        written,
+        listed,
+    } = *summary;
+    format!(in alloc;
+        "packets {packets}\nrecording {recording}\nstore {store}\nplayed {played}\ndelivered {delivered}\n\
             written {written}\nlisted {listed}\n"
-    )?)
+    )
 }
 
-/// The numbers that the call answers are the lengths of what its desk holds.
-fn assert_numbers(rt: &impl Abort, summary: &Summary, held: &MemDesk) {
-    assert_eq!(rt; summary.packets, 50);
-    assert_eq!(rt; summary.recording, size(held, "recording") as u64);
-    assert_eq!(rt; summary.store, size(held, "store") as u64);
-    assert_eq!(rt; summary.played, size(held, "played") as u64);
-    assert_eq!(rt; summary.written, (size(held, "restored") / 2) as u64);
-}
-
-/// What is printed at a desk are the lines of what a trial holds.
+/// What is printed at a desk are the lines of the same trial.
 fn assert_lines(
-    rt: &(impl Abort + AllocGlobal),
+    rt: &impl Tester,
     seed: u32,
     summary: &Summary,
-    held: &MemDesk,
     desk: &mut MemDesk,
 ) -> Result<(), Fail> {
     print(rt, seed, desk)?;
-    let wanted = lines(rt.alloc(), summary, held)?;
+    let wanted = lines(rt.alloc(), summary)?;
     assert_eq!(rt; desk.seen(Outlet::Main), wanted.as_bytes(), "{seed}");
     Ok(())
 }
 
-fn assert_trial(rt: &(impl Abort + AllocGlobal), seed: u32) -> Result<(), Fail> {
+fn assert_trial(rt: &impl Tester, seed: u32) -> Result<(), Fail> {
     let (summary, held) = trial(rt.alloc(), seed)?;
-    assert_numbers(rt, &summary, &held);
-    assert_lines(rt, seed, &summary, &held, &mut new_desk(rt.alloc()))
+    assert_eq!(rt; summary, measured(&summary, &held), "{seed}");
+    assert_lines(rt, seed, &summary, &mut new_desk(rt.alloc()))
 }
 
 #[test]

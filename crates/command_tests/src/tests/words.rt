@@ -2,13 +2,12 @@
 
 use super::desk::{answer, hold, new_desk};
 use super::rows::{Wrong, assert_wrong_words};
-use desk_ports::MemDesk;
 use pocket_cmd::Status;
 use std::alloc::Global;
 use std::test::Fail;
 
 /// Lines of words, and the place of the first wrong word in each.
-static WRONG: [Wrong; 109] = [
+static WRONG: [Wrong; 173] = [
     ("", 0),
     ("shrink", 0),
     ("Restore in=a out=b report=c bits=8 apid=100", 0),
@@ -125,6 +124,76 @@ static WRONG: [Wrong; 109] = [
     ("trial seed=0 plan=p", 2),
     ("restore seed=0", 1),
     ("compress packets=3", 1),
+    ("late", 1),
+    ("late out=b report=c bits=8 apid=1 window=1", 6),
+    ("late in=a report=c bits=8 apid=1 window=1", 6),
+    ("late in=a out=b bits=8 apid=1 window=1", 6),
+    ("late in=a out=b report=c apid=1 window=1", 6),
+    ("late in=a out=b report=c bits=8 window=1", 6),
+    ("late in=a out=b report=c bits=8 apid=1", 6),
+    ("late in=a out=b report=c bits=8 apid=1 window=65", 6),
+    (
+        "late in=a out=b report=c bits=8 apid=1 window=1 window=1",
+        7,
+    ),
+    ("late window=01", 1),
+    ("late window=-1", 1),
+    ("late window=", 1),
+    ("late apid=2047", 1),
+    ("late bits=0", 1),
+    ("late plan=s", 1),
+    ("late in=a out=a", 2),
+    ("restore window=1", 1),
+    ("lates", 0),
+    ("forecast", 1),
+    ("forecast out=b packets=0 robust=1 plan=s script=a", 2),
+    ("forecast out=b packets=1000001 robust=1 plan=s script=a", 2),
+    ("forecast out=b packets=04 robust=1 plan=s script=a", 2),
+    ("forecast out=b packets=4 robust=8 plan=s script=a", 3),
+    ("forecast packets=4 robust=1 plan=s script=a", 5),
+    ("forecast out=b robust=1 plan=s script=a", 5),
+    ("forecast out=b packets=4 plan=s script=a", 5),
+    ("forecast out=b packets=4 robust=1 script=a", 5),
+    ("forecast out=b packets=4 robust=1 plan=s", 5),
+    ("forecast out=b packets=4 robust=1 plan=s script=s", 5),
+    ("forecast out=b packets=4 robust=1 plan=b script=a", 4),
+    ("forecast out=b packets=4 robust=1 plan=s script=b", 5),
+    ("forecast out=b packets=4 robust=1 plan=- script=-", 5),
+    ("forecast in=c out=b packets=4 robust=1 plan=s script=a", 1),
+    (
+        "forecast out=b packets=4 robust=1 plan=s script=a report=c",
+        6,
+    ),
+    ("multi", 1),
+    ("multi out=b report=c streams=s", 4),
+    ("multi in=a report=c streams=s", 4),
+    ("multi in=a out=b streams=s", 4),
+    ("multi in=a out=b report=c", 4),
+    ("multi in=a out=b report=c streams=s bits=8", 5),
+    ("multi in=a out=b report=c streams=s apid=1", 5),
+    ("multi streams=", 1),
+    ("multi in=a streams=a out=b report=c", 2),
+    ("multi in=a streams=s out=s report=c", 3),
+    ("multi in=a streams=s out=b report=b", 4),
+    ("multi in=- streams=- out=b report=c", 2),
+    ("restore streams=s", 1),
+    ("table", 1),
+    ("table out=b report=c fields=s bits=8", 5),
+    ("table in=a report=c fields=s bits=8", 5),
+    ("table in=a out=b fields=s bits=8", 5),
+    ("table in=a out=b report=c bits=8", 5),
+    ("table in=a out=b report=c fields=s", 5),
+    ("table in=a out=b report=c fields=s bits=8 apid=1", 6),
+    ("table in=a out=b report=c fields=s bits=8 plan=p", 6),
+    ("table bits=0", 1),
+    ("table bits=49153", 1),
+    ("table bits=08", 1),
+    ("table fields=", 1),
+    ("table in=a fields=a out=b report=c bits=8", 2),
+    ("table in=a fields=s out=s report=c bits=8", 3),
+    ("table in=a fields=s out=b report=b bits=8", 4),
+    ("table in=- fields=- out=b report=c bits=8", 2),
+    ("restore fields=s", 1),
 ];
 
 /// Lines that give a command, and the names of all that it opens for reading.
@@ -172,19 +241,10 @@ fn wrong_words(rt: HostRuntime) -> Result<(), Fail> {
 /// What is answered if these inputs exist, with no bytes.
 fn answer_with(alloc: Global, line: &str, inputs: &[&str]) -> Result<Status, Fail> {
     let mut desk = new_desk(alloc);
-    answer_at(alloc, line, inputs, &mut desk)
-}
-
-fn answer_at(
-    alloc: Global,
-    line: &str,
-    inputs: &[&str],
-    desk: &mut MemDesk,
-) -> Result<Status, Fail> {
     for name in inputs {
-        hold(desk, name, &[])?;
+        hold(&mut desk, name, &[])?;
     }
-    Ok(answer(alloc, line, desk)?)
+    Ok(answer(alloc, line, &mut desk)?)
 }
 
 #[test]

@@ -2,14 +2,11 @@
 
 ghost use Rattle.bit_vectors.specs.Vectors.{IsPlaces};
 
+use super::bytes::eye;
 use bit_vectors::{BitEye, BitFault, BitPen, NoMemory};
 use count_code::{Count, count_len, match_count, put_count, put_end, take_count};
 use std::alloc::Global;
 use std::test::Fail;
-
-fn eye(bytes: &[u8]) -> BitEye<'_> {
-    BitEye::new(&bytes[..bytes.len().min(65536)])
-}
 
 /// Whether the bits are this count, and then the end.
 fn is_count(bits: &[u8], a: u32) -> bool

@@ -7,24 +7,6 @@ use packet_encode::{Encoder, room};
 use std::alloc::Global;
 use std::test::Fail;
 
-const NONE: Flags = Flags {
-    p: false,
-    f: false,
-    r: false,
-};
-
-const NEW_MASK: Flags = Flags {
-    p: true,
-    f: false,
-    r: false,
-};
-
-const WHOLE: Flags = Flags {
-    p: false,
-    f: true,
-    r: true,
-};
-
 /// An encoder with its input and a pen for its packet.
 #[derive(Drop)]
 struct Sender {
@@ -58,11 +40,6 @@ impl Sender {
         true
     }
 
-    // Whether the packet of the next input has these bytes.
-    fn packs(&mut self, robust: u8, &(input, flags, data): &Packet) -> bool {
-        self.encodes(input, flags, robust) && self.pen.bytes() == data
-    }
-
     // Whether it has so many bytes.
     fn has_size(&mut self, input: &[u8], flags: Flags, size: usize) -> bool {
         self.encodes(input, flags, 0) && self.pen.bytes().len() == size
@@ -86,160 +63,73 @@ fn vector(alloc: Global, places: u32, bytes: &[u8]) -> Result<Bits, NoMemory> {
     }
 }
 
-// An input, its flags, and the bytes of its packet.
-type Packet = (&'static [u8], Flags, &'static [u8]);
-
-// The packets of an encoder from its first on.
-struct History {
-    places: u32,
-    robust: u8,
-    first_mask: &'static [u8],
-    packets: &'static [Packet],
-}
-
-static HISTORIES: [History; 8] = [
+/// Histories of an encoder from its first packet on: the places, the required robustness, the first mask, and the packets.
+/// A packet has its input, its flags after a plus, if it has some, a colon and its bytes.
+static HISTORIES: [&str; 8] = [
     // Levels above the required robustness, and equal to it.
-    History {
-        places: 8,
-        robust: 1,
-        first_mask: &[0x00],
-        packets: &[
-            (&[0xB0], NONE, &[0x85, 0xB8, 0xD6, 0x00]),
-            (&[0xB1], NONE, &[0x42, 0x4B, 0x8D, 0x62]),
-            (&[0xB1], NONE, &[0x44, 0xC0]),
-            (&[0xB3], NONE, &[0xC0, 0x85, 0xC0]),
-        ],
-    },
+    "8|1|00|B0:85B8D600 B1:424B8D62 B1:44C0 B3:C085C0",
     // The mask is made new twice, and a place becomes predictable.
-    History {
-        places: 8,
-        robust: 1,
-        first_mask: &[0x00],
-        packets: &[
-            (&[0x00], NONE, &[0x85, 0xB8, 0xC0, 0x00]),
-            (&[0x01], NONE, &[0x42, 0x4B, 0x8C, 0x02]),
-            (&[0x01], NONE, &[0x44, 0xC0]),
-            (&[0x01], NEW_MASK, &[0x87]),
-            (&[0x01], NONE, &[0x8B]),
-            (&[0x01], NEW_MASK, &[0x47, 0xF0]),
-        ],
-    },
+    "8|1|00|00:85B8C000 01:424B8C02 01:44C0 01+p:87 01:8B 01+p:47F0",
     // Mask and whole content are sent again.
-    History {
-        places: 8,
-        robust: 1,
-        first_mask: &[0x00],
-        packets: &[
-            (&[0x00], NONE, &[0x85, 0xB8, 0xC0, 0x00]),
-            (&[0x01], NONE, &[0x42, 0x4B, 0x8C, 0x02]),
-            (&[0x03], NONE, &[0x22, 0x70]),
-            (&[0x03], NONE, &[0xC0, 0x85, 0xC0]),
-            (&[0x03], NONE, &[0x87, 0x80]),
-            (&[0x03], NONE, &[0x8B, 0x80]),
-            (&[0x03], WHOLE, &[0x8D, 0x60, 0x5C, 0x60, 0x30]),
-        ],
-    },
+    "8|1|00|00:85B8C000 01:424B8C02 03:2270 03:C085C0 03:8780 03:8B80 03+fr:8D605C6030",
     // No robustness is required, and there is a first mask.
-    History {
-        places: 8,
-        robust: 0,
-        first_mask: &[0x0F],
-        packets: &[
-            (&[0xA5], NONE, &[0x81, 0x61, 0x5C, 0x6A, 0x50]),
-            (&[0xA6], NONE, &[0x86, 0xC0]),
-        ],
-    },
+    "8|0|0F|A5:81615C6A50 A6:86C0",
     // No robustness is required; the last packet has level 0.
-    History {
-        places: 8,
-        robust: 0,
-        first_mask: &[0x00],
-        packets: &[
-            (&[0x00], NONE, &[0x81, 0xB8, 0xC0, 0x00]),
-            (&[0x01], NONE, &[0x42, 0xC0]),
-            (&[0x03], NONE, &[0xC0, 0x83, 0x80]),
-        ],
-    },
+    "8|0|00|00:81B8C000 01:42C0 03:C08380",
     // Equal inputs: the level rises to 15, and from then on each packet is the one before, but if the input changes at a
     // place of the mask, if mask and whole content are sent, and after that.
-    History {
-        places: 8,
-        robust: 0,
-        first_mask: &[0x0F],
-        packets: &[
-            (&[0xA6], NONE, &[0x81, 0x61, 0x5C, 0x6A, 0x60]),
-            (&[0xA6], NONE, &[0x86, 0xC0]),
-            (&[0xA6], NONE, &[0x8A, 0xC0]),
-            (&[0xA6], NONE, &[0x8E, 0xC0]),
-            (&[0xA6], NONE, &[0x92, 0xC0]),
-            (&[0xA6], NONE, &[0x96, 0xC0]),
-            (&[0xA6], NONE, &[0x9A, 0xC0]),
-            (&[0xA6], NONE, &[0x9E, 0xC0]),
-            (&[0xA6], NONE, &[0xA2, 0xC0]),
-            (&[0xA6], NONE, &[0xA6, 0xC0]),
-            (&[0xA6], NONE, &[0xAA, 0xC0]),
-            (&[0xA6], NONE, &[0xAE, 0xC0]),
-            (&[0xA6], NONE, &[0xB2, 0xC0]),
-            (&[0xA6], NONE, &[0xB6, 0xC0]),
-            (&[0xA6], NONE, &[0xBA, 0xC0]),
-            (&[0xA6], NONE, &[0xBE, 0xC0]),
-            (&[0xA6], NONE, &[0xBE, 0xC0]),
-            (&[0xA6], NONE, &[0xBE, 0xC0]),
-            (&[0xA7], NONE, &[0xBF, 0xC0]),
-            (&[0xA7], NONE, &[0xBF, 0xC0]),
-            (&[0xA6], NONE, &[0xBE, 0xC0]),
-            (&[0xA6], WHOLE, &[0xBD, 0x61, 0x5C, 0x6A, 0x60]),
-            (&[0xA6], NONE, &[0xBE, 0xC0]),
-            (&[0xA6], NONE, &[0xBE, 0xC0]),
-        ],
-    },
+    "8|0|0F|A6:81615C6A60 A6:86C0 A6:8AC0 A6:8EC0 A6:92C0 A6:96C0 A6:9AC0 A6:9EC0 A6:A2C0 A6:A6C0 A6:AAC0 \
+        A6:AEC0 A6:B2C0 A6:B6C0 A6:BAC0 A6:BEC0 A6:BEC0 A6:BEC0 A7:BFC0 A7:BFC0 A6:BEC0 A6+fr:BD615C6A60 A6:BEC0 \
+        A6:BEC0",
     // One place.
-    History {
-        places: 1,
-        robust: 0,
-        first_mask: &[0x00],
-        packets: &[
-            (&[0x80], NONE, &[0x81, 0xA8]),
-            (&[0x00], NONE, &[0x42, 0x80]),
-            (&[0x80], NONE, &[0x83]),
-        ],
-    },
+    "1|0|00|80:81A8 00:4280 80:83",
     // Thirteen places.
-    History {
-        places: 13,
-        robust: 0,
-        first_mask: &[0x00, 0x00],
-        packets: &[(&[0x12, 0x38], NONE, &[0x81, 0xB9, 0x62, 0x47])],
-    },
+    "13|0|0000|1238:81B96247",
 ];
 
-// Whether all packets have their bytes.
-fn all_pack(sender: &mut Sender, robust: u8, packets: &[Packet]) -> bool {
-    for packet in packets {
-        if !sender.packs(robust, packet) {
-            return false;
-        }
+/// Flags by their letters.
+fn flags_of(letters: &str) -> Flags {
+    Flags {
+        p: letters.contains('p'),
+        f: letters.contains('f'),
+        r: letters.contains('r'),
     }
-    true
 }
 
-fn is_right(alloc: Global, history: &History) -> Result<bool, NoMemory> {
-    let mask = vector(alloc, history.places, history.first_mask)?;
-    let mut sender = Sender::open(alloc, mask)?;
-    Ok(all_pack(&mut sender, history.robust, history.packets))
+/// Whether the packet of the next input has its bytes.
+fn packs(alloc: Global, sender: &mut Sender, robust: u8, packet: &str) -> Result<bool, Fail> {
+    let (given, data) = packet.split_once(':').unwrap_or((packet, ""));
+    let (input, letters) = given.split_once('+').unwrap_or((given, ""));
+    let (input, data) = (hex::decode(alloc, input)?, hex::decode(alloc, data)?);
+    let is_encoded = sender.encodes(&input, flags_of(letters), robust);
+    Ok(is_encoded && sender.pen.bytes() == data.as_slice())
+}
+
+fn is_right(alloc: Global, history: &str) -> Result<bool, Fail> {
+    let mut fields = history.split('|');
+    let places = fields.next().unwrap_or("").parse()?;
+    let robust = fields.next().unwrap_or("").parse()?;
+    let mask = hex::decode(alloc, fields.next().unwrap_or(""))?;
+    let mut sender = Sender::open(alloc, vector(alloc, places, &mask)?)?;
+    for packet in fields.next().unwrap_or("").split(' ') {
+        if !packs(alloc, &mut sender, robust, packet)? {
+            return Ok(false);
+        }
+    }
+    Ok(true)
 }
 
 #[test]
 fn worked_packets(rt: HostRuntime) -> Result<(), Fail> {
     for history in &HISTORIES {
-        assert!(rt; is_right(rt.alloc(), history)?);
+        assert!(rt; is_right(rt.alloc(), history)?, "{history}");
     }
     Ok(())
 }
 
 // The longest vectors: a packet of zeros, and one in which every second place has moved.
 fn have_sizes(sender: &mut Sender, zeros: &[u8], moved: &[u8]) -> bool {
-    sender.has_size(zeros, NONE, 6_149) && sender.has_size(moved, WHOLE, 36_870)
+    sender.has_size(zeros, flags_of(""), 6_149) && sender.has_size(moved, flags_of("fr"), 36_870)
 }
 
 fn longest_are_right(alloc: Global, zeros: &[u8], moved: &[u8]) -> Result<bool, NoMemory> {

@@ -1,8 +1,9 @@
 //! Words worked by hand, each way, and the first wrong bit of others. Only `has_ones` has a loop over places; it
 //! looks at each place of a short vector.
 
+use super::bytes::eye;
 use bit_vectors::BitFault::{EndsEarly, Wrong};
-use bit_vectors::{BitEye, BitFault, BitPen, Bits, NoMemory};
+use bit_vectors::{BitFault, BitPen, Bits, NoMemory};
 use run_code::{
     edges, from_edges, match_runs, put_extract, put_inverse_up, put_runs, take_into,
     take_inverse_up, take_runs,
@@ -33,10 +34,6 @@ fn has_ones(v: &Bits, ones: &[u32]) -> bool {
         same &= v.get(place) == ones.contains(&place);
     }
     same
-}
-
-fn eye(bytes: &[u8]) -> BitEye<'_> {
-    BitEye::new(&bytes[..bytes.len().min(65536)])
 }
 
 /// Whether the runs of a vector are written as this word.

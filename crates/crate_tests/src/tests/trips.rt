@@ -2,6 +2,7 @@
 
 ghost use Rattle.std.specs.Prelude.{◌≡◌, length, IfOk};
 
+use super::bytes::byte;
 use bit_vectors::{Bits, NoMemory};
 use round_trip::carry_first;
 use std::alloc::Global;
@@ -14,15 +15,6 @@ fn vector(alloc: Global, byte: u8) -> Result<Bits, NoMemory>
     let mut vector = Bits::zeros(alloc, 8)?;
     let _ = vector.load(&[byte]);
     Ok(vector)
-}
-
-/// A vector of 8 places, as a byte.
-fn byte(vector: &Bits) -> u8 {
-    let mut out = [0];
-    if vector.len() == 8 {
-        vector.store(&mut out);
-    }
-    out[0]
 }
 
 /// What a decoder shows that has read the first packet of this input: the content and its mask.
