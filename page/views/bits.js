@@ -8,6 +8,13 @@ const MOST_BYTES = 64;
 const ROWS_AT_ONCE = 64;
 const MOST_ROWS = 1024; // if all are asked for
 
+// (browsers of before 2025 have no Uint8Array.fromHex)
+export function from_hex(text) {
+  const bytes = new Uint8Array(text.length >> 1);
+  for (let place = 0; place < bytes.length; place += 1) bytes[place] = parseInt(text.substr(2 * place, 2), 16);
+  return bytes;
+}
+
 export const to_hex = (bytes) => Array.from(bytes, (byte) => byte.toString(16).padStart(2, '0')).join(' ');
 
 // Bytes as hexadecimal digits in pairs, of many the beginning and how many there are.

@@ -9,7 +9,7 @@ let module = null;
 
 // Compiles the module; what it raises is why the program can't be run here.
 export async function compile_module() {
-  module = await WebAssembly.compile(Uint8Array.fromBase64(part('module').textContent));
+  module = await WebAssembly.compile(Uint8Array.from(atob(part('module').textContent.trim()), (letter) => letter.charCodeAt(0)));
 }
 
 export class Desk {

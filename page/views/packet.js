@@ -1,6 +1,6 @@
 // What a store, its listing and its recording have of one packet: its place, its vectors, its bits.
 
-import { bit_at, bit_table, hex_words, ones_words, to_hex, wrong_table } from './bits.js';
+import { bit_at, bit_table, from_hex, hex_words, ones_words, to_hex, wrong_table } from './bits.js';
 import { element, fill } from './parts.js';
 import { WHAT_TO_DO, packet_words } from './store_words.js';
 import { packet_length } from '../data/space.js';
@@ -70,12 +70,12 @@ function arrival_details({ listing, runs, bits }, place, kind, start, packet) {
     return [fact_list(facts), wrong_table(data, wrong)];
   }
   const mask = cells.indexOf('mask');
-  if (mask > 0) facts.push(['mask', hex_words(Uint8Array.fromHex(cells[mask + 1]))]);
+  if (mask > 0) facts.push(['mask', hex_words(from_hex(cells[mask + 1]))]);
   return [fact_list(facts), bit_table(data, 8 * data.length)];
 }
 
 function written_details([, , level, changes, mask, content], facts, data, bits) {
-  const known = mask === '-' ? null : Uint8Array.fromHex(mask), [recent, vector] = [changes, content].map((it) => Uint8Array.fromHex(it));
+  const known = mask === '-' ? null : from_hex(mask), [recent, vector] = [changes, content].map(from_hex);
   facts.push(['level', `${level}: so many packets before it could be missing`], ['content', hex_words(vector)]);
   facts.push(['mask', known ? `${hex_words(known)} (not predictable: ${ones_words(known)})` : 'not known']);
   facts.push(['recent changes', `${hex_words(recent)} (${ones_words(recent)})`], ['data', hex_words(data)]);
