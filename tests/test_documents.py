@@ -106,7 +106,7 @@ class Documents(unittest.TestCase):
 
     def test_limits(self):
         """The limits in C, Python and the page are those of the definitions."""
-        places = re.search(r"IsPlaces f = .* × \(f ≤ (\d+)\)", text_of("crates/bit_vectors/specs/Vectors.antt"))[1]
+        places = re.search(r"most_places = (\d+)", text_of("crates/bit_vectors/specs/Vectors.antt"))[1]
         apid = re.search(r"chosen : apid ≤ (\d+)", text_of("crates/packet_store/specs/SpacePackets.antt"))[1]
         for name, limit, before, after in (
                 ("library/pocket.h", places, "#define POCKET_MOST_BITS ", "u "), ("library/python/pocket/calls.py", places, "\nMOST_BITS = ", "\n"),

@@ -170,10 +170,11 @@ fn assert_fault_row(
     let (calls, end) = row.split_once(':').unwrap_or((row, ""));
     let ending = ending_of(end, faults.output, faults.report).ok_or(row)?;
     let fails = calls_of(rt, calls)?;
+    let (input, side) = (faults.input, faults.side);
     let case = Case {
         words: faults.words,
-        input: faults.input,
-        side: faults.side,
+        input,
+        side,
         pieces,
         fails: &fails,
     };
