@@ -161,6 +161,14 @@ fn ending_of<'a>(text: &str, output: &'a [u8], report: &'a [u8]) -> Option<Endin
     Some(refused(refusal, output, report))
 }
 
+/// What a table gives, for as long as a case has it.
+fn given<'a>(input: Option<&'static [u8]>) -> Option<&'a [u8]> {
+    match input {
+        None => None,
+        Some(bytes) => Some(bytes),
+    }
+}
+
 fn assert_fault_row(
     rt: &impl Tester,
     faults: &Faults,
@@ -170,7 +178,7 @@ fn assert_fault_row(
     let (calls, end) = row.split_once(':').unwrap_or((row, ""));
     let ending = ending_of(end, faults.output, faults.report).ok_or(row)?;
     let fails = calls_of(rt, calls)?;
-    let (input, side) = (faults.input, faults.side);
+    let (input, side) = (given(faults.input), given(faults.side));
     let case = Case {
         words: faults.words,
         input,
