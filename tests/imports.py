@@ -22,9 +22,9 @@ OF_EACH = set("""
 
 
 def is_used(name, text):
-    """Whether a text has a name, or each part of an operator."""
+    """Whether a text has a name, or each part of an operator; a `do` block has `>>=`."""
     if "◌" in name:
-        return all(part in text for part in name.split("◌") if part)
+        return name == "◌>>=◌" and re.search(r"\bdo$", text, re.M) or all(part in text for part in name.split("◌") if part)
     return re.search(rf"(?<![\w-]){re.escape(name)}(?!\w)", text) is not None
 
 

@@ -3,7 +3,7 @@ use Rattle.std.specs.Prelude.{◌≡◌, ℕ, ◌<◌, ◌≤◌, nat_lt, Bool, 
 use Rattle.std.specs.List.{list_any}
 use Rattle.bit_vectors.specs.Vectors.{most_places}
 use Rattle.side_tables.specs.declared.rows.StreamRow.{StreamRow}
-use Rattle.side_tables.specs.Grammar.{field_number}
+use Rattle.side_tables.specs.Grammar.{◌>>=◌, field_number}
 use Rattle.side_tables.specs.Texts.{Grammar, rows_of, bad_row}
 
 abbrev pub no_stream : StreamRow
