@@ -202,7 +202,7 @@ size_t pocket_state_bytes(uint32_t bits, uint32_t kind);
 pocket_status pocket_checked_save(pocket_handle *handle, uint8_t *state, size_t room, size_t *length);
 
 /* Puts a state in place of what an open handle of its kind and bits holds, which then goes on as the saved one would have. Each state that is
- * taken is one that a sender or a receiver can hold; the sum at its end finds damage, and doesn't tell who wrote it. Takes no memory.
+ * taken is within the bounds of a sender or a receiver; the sum at its end finds damage, and doesn't tell who wrote it. Takes no memory.
  * A sender that goes on from a state older than its last packet would contradict what it sent: leave out 16 sequence counts (by pocket_sent
  * and a header of one's own), and ask for the mask and the whole content in the next packet.
  * POCKET_IS_CLOSED, OTHER_KIND of a desk, NO_STATE, OTHER_STATE: one that is so. */
