@@ -108,8 +108,9 @@ class Calls(LibraryTest):
         """Each allocation is refused in turn."""
         self.passes(self.compiled("refused_memory.c", "refused", WRAPPED), "1", "8", "13", "1024", "49152")
 
-    def test_random_bytes(self):
-        self.passes(self.compiled("random_bytes.c", "random", "-g", "-fsanitize=address"))
+    def test_both_ends(self):
+        """Random calls of both ends, of which some packets are any bytes."""
+        self.passes(self.compiled("both_ends.c", "both-ends", "-g", "-fsanitize=address"), "4000")
 
     def test_any_states(self):
         """Any bytes are taken for a state."""

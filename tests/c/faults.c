@@ -80,22 +80,12 @@ static ssize_t write_out(int fd, const void *buf, size_t size) {
 ssize_t write(int fd, const void *buf, size_t size) { return write_out(fd, buf, size); }
 ssize_t __write(int fd, const void *buf, size_t size) { return write_out(fd, buf, size); }
 
-int rename(const char *from, const char *to) {
-    if (fails('n', 'n')) { errno = EIO; return -1; }
-    return syscall(SYS_rename, from, to);
+#define FAILING(name, letter, given, ...) int name given { \
+    if (fails(letter, letter)) { errno = EIO; return -1; } \
+    return syscall(SYS_##name, __VA_ARGS__); \
 }
 
-int unlink(const char *name) {
-    if (fails('u', 'u')) { errno = EIO; return -1; }
-    return syscall(SYS_unlink, name);
-}
-
-int fsync(int fd) {
-    if (fails('y', 'y')) { errno = EIO; return -1; }
-    return syscall(SYS_fsync, fd);
-}
-
-int fchmod(int fd, mode_t mode) {
-    if (fails('m', 'm')) { errno = EIO; return -1; }
-    return syscall(SYS_fchmod, fd, mode);
-}
+FAILING(rename, 'n', (const char *from, const char *to), from, to)
+FAILING(unlink, 'u', (const char *name), name)
+FAILING(fsync, 'y', (int fd), fd)
+FAILING(fchmod, 'm', (int fd, mode_t mode), fd, mode)

@@ -182,36 +182,6 @@ static void out_of_order(void)
     pocket_close(&desk);
     close_both(&sender, &receiver);
 }
-
-/* Each flag by the letter that the program has for it, which is that of the standard. */
-static void letters(void)
-{
-    static const char *const plans[3] = {"5,5,1,p\n", "5,5,1,f\n", "5,5,1,r\n"};
-    unsigned flag, t;
-
-    for (flag = 0; flag < 3; flag++) {
-        pocket_handle sender = POCKET_NOTHING, desk = POCKET_NOTHING;
-        static uint8_t inputs[10 * BYTES], store[10 * (6 + ROOM)], wanted[sizeof store];
-        size_t at = 0, length;
-        uint8_t level;
-
-        begin();
-        pocket_sender_open(&sender, BITS, NULL, 0);
-        for (t = 0; t < 10; t++) {
-            move();
-            memcpy(inputs + t * BYTES, input, BYTES);
-            check(pocket_send(&sender, input, BYTES, flag == 0 && t == 5, flag == 1 && t == 5, flag == 2 && t == 5, 1, wanted + at + 6, ROOM, &length, &level) == POCKET_DONE, "a flag");
-            check(pocket_header(APID, t, length, wanted + at) == POCKET_DONE, "a header");
-            at += 6 + length;
-        }
-        check(pocket_desk_open(&desk) == POCKET_DONE && pocket_put(&desk, "x", inputs, sizeof inputs) == POCKET_DONE, "a desk");
-        check(pocket_put(&desk, "p", (const uint8_t *)plans[flag], strlen(plans[flag])) == POCKET_DONE, "a schedule");
-        command(&desk, "compress in=x out=s bits=64 apid=100 robust=1 plan=p");
-        check(pocket_get(&desk, "s", store, sizeof store, &length) == POCKET_DONE && length == at && memcmp(store, wanted, at) == 0, plans[flag]);
-        pocket_close(&desk);
-        pocket_close(&sender);
-    }
-}
 #endif
 
 /* How many of fifty packets after a restart are right, wrong in their content, and unwritten, if the first ones are lost. */
@@ -280,7 +250,6 @@ int main(void)
     restarts();
 #ifndef POCKET_NO_DESK
     out_of_order();
-    letters();
 #endif
     return counted();
 }
