@@ -1,9 +1,7 @@
 """Lines for tests/c/driver.c, which calls the library by them, and what it prints: worked inputs, wrong arguments, random histories, commands
 at a desk, arrivals with more data than a packet has, and a sender and a receiver that are saved."""
 
-import random
-
-from library import STRICT, run
+from library import PROVED, STRICT, run
 from program import TOP
 from rows import VERBS
 
@@ -54,9 +52,11 @@ def text(number, bits):
 
 
 def lines_of(case):
+    """The lines of a history. If the required robustness is odd, some packets and a reset come before it."""
     bits, mask, robust, steps = case
     sends = [f"send {flags} {robust} {fate} {given}" for flags, fate, given in steps]
-    return [f"open {bits} {mask or '-'}", *sends[:len(sends) // 2], *["save"] * (bits < 5000), *sends[len(sends) // 2:], "close"]
+    begin = [f"open {bits} -", *sends[-3:], f"reset {mask or '-'}"] if robust % 2 else [f"open {bits} {mask or '-'}"]
+    return [*begin, *sends[:len(sends) // 2], *["save"] * (bits < 5000), *sends[len(sends) // 2:], "close"]
 
 
 def long_data(draw):
@@ -136,9 +136,13 @@ def compile_driver(compiler, library, to, *flags):
     run(compiler, "-std=c99", *STRICT, "-O2", "-static", *flags, "-o", to, f"{TOP}/tests/c/driver.c", *library)
 
 
-def all_tests():
-    """The tests, each its lines and what is known of what they give; the random cases among them, and what draws more."""
-    draw = random.Random(SEED)
-    cases = [random_case(draw, number) for number in range(CASES)]
-    lines = [line for case in cases for line in lines_of(case)]
-    return {"the worked inputs": worked(), "wrong arguments": tuple(zip(*WRONG)), f"{CASES} random cases": (lines, None)}, cases, draw
+def by_native(to, tests, *flags):
+    """What the proved library of this processor prints of each test, by a driver over it."""
+    compile_driver("gcc", [PROVED, HEAP], to, *flags)
+    return {name: ran([to], lines) for name, (lines, _) in tests.items()}
+
+
+def all_tests(draw):
+    """The tests, each its lines and what is known of what they give."""
+    lines = [line for number in range(CASES) for line in lines_of(random_case(draw, number))]
+    return {"the worked inputs": worked(), "wrong arguments": tuple(zip(*WRONG)), f"{CASES} random cases": (lines, None)}

@@ -1,6 +1,6 @@
 """Random histories with losses, through the module and through the program. The packets of a Sender are the store that `compress` writes,
-and what a Receiver finds, contents too, is what `show` lists; every other history is sent and received after another one and a reset. At a
-desk in memory the two commands write the same. Each history is that of its seed."""
+what a Receiver finds, contents too, is what `show` lists, and those contents and counts are what `restore` gives; every other history is sent
+and received after another one and a reset. At a desk in memory `compress` and `show` write the same. Each history is that of its seed."""
 
 import functools
 import os
@@ -21,7 +21,7 @@ ran = functools.partial(library.run, PROGRAM)
 
 def history(draw):
     """Bits, inputs, flags, required robustness, first mask and the copies of each packet that arrive."""
-    bits = draw.choice([1, 2, 7, 8, 9, 13, 31, 64, 65, 100, 257, 1024]) if draw.random() < 0.98 else draw.choice([4096, 49152])
+    bits = draw.choice([1, 2, 7, 8, 9, 13, 31, 64, 65, 100, 257, 1024]) if draw.random() < 0.95 else draw.choice([4096, 49152, round(49152 ** draw.random())])
     number, spare = draw.randint(1, 40), -bits % 8
     places = [draw.randrange(bits) for _ in range(draw.randint(0, 12))]
     current, inputs = draw.getrandbits(bits), []
@@ -104,6 +104,9 @@ def differs(seed, folder):
     end = f"end {counts.packets} {counts.written} {counts.repeats}"
     if [line for one in found for line in lines(one)] + [end] != list(shown(listing)):
         return "the verdicts"
+    contents = ran("restore", f"in={at('played')}", "out=-", f"report={at('report')}", f"bits={bits}", f"apid={APID}")
+    if contents != b"".join(one.content or b"" for one in found) or not at("report").read_text().endswith(end.replace(" ", ",") + "\n"):
+        return "what is restored"
     masks = [one.mask_alone for one in found if one.kind in (Kind.UNSYNCED, Kind.GAP)]
     listed = ["mask" in line for line in listing.splitlines() if line.split()[1] in ("gap", "unsynced")]
     return None if masks == listed else "the masks that became known"

@@ -11,6 +11,7 @@ import atexit
 import concurrent.futures
 import filecmp
 import functools
+import itertools
 import os
 import random
 import shutil
@@ -19,8 +20,8 @@ import sys
 import tempfile
 import unittest
 
-from driver import HEAP, all_tests, compile_driver, differing, long_data, ran, states
-from library import PROVED, STRICT, need, run
+from driver import SEED, all_tests, by_native, differing, long_data, ran, states
+from library import STRICT, need, run
 from program import PROGRAM, TOP, Folder, ProgramTest, text_of
 from rows import DATA, TEXTS, VERBS, WORDS
 from test_files import FILES
@@ -61,8 +62,13 @@ TARGETS = {
     "RISC-V of 32 bits, a machine": ("riscv64-unknown-elf-gcc", ["-march=rv32imac", "-mabi=ilp32", "-mcmodel=medany", *MACHINE, *NO_LIBC, "-T",
                                                                  f"{RISCV32}/link.ld", f"{RISCV32}/start.S", f"{RISCV32}/board.c"], QEMU_RISCV32),
 }
-# What the file asks for: of the C library, and of the compiler's own functions on a processor without an operating system.
+# What the file asks for: of the C library, by flags, of which one is what compilers take without any; which calls some of these leave out; and
+# of the compiler's own functions on a processor without an operating system.
 LIBC = {"memcpy", "memmove", "memset"}
+HOSTED = [(["-O1"], LIBC | {"malloc", "free"}), (["-std=gnu17"], LIBC | {"malloc", "free"}), (["-O0", "-DPOCKET_NO_HEAP"], LIBC), (["-O0", "-DPOCKET_NO_RECEIVER", "-DPOCKET_NO_HEAP"], LIBC),
+          (["-O0", "-DPOCKET_NO_SENDER", "-DPOCKET_NO_HEAP"], LIBC), (["-O0", "-DPOCKET_UNCHECKED"], LIBC | {"malloc", "free"})]
+LEFT_OUT = {"-DPOCKET_NO_SENDER": "send", "-DPOCKET_NO_RECEIVER": "receive"}
+FREESTANDING = ["-ffreestanding", "-DPOCKET_NO_HEAP", "-DPOCKET_NO_LIBC"]
 BARE = {
     "Cortex-M3": (["arm-none-eabi-gcc", "-mcpu=cortex-m3", "-mthumb"], {"__ctzdi2"}),
     "LEON3": (["sparc64-linux-gnu-gcc", "-m32", "-mcpu=leon3"],
@@ -87,14 +93,9 @@ class Room(Folder):
         self.made = self.at("dist") if all(map(shutil.which, ("wasm2c", "wasm-opt", "esbuild"))) else DIST
         if self.made != DIST:
             run("make", "-s", "dist", f"DIST={self.made}", timeout=1800)
-        self.tests, _, draw = all_tests()
-        self.tests["more data than a packet has"] = long_data(draw), None
-        native = self.at("native")
-        compile_driver("gcc", [PROVED, HEAP], native)
-        self.wanted = {name: ran([native], lines) for name, (lines, _) in self.tests.items()}
-        whole, parts = states(random.Random(68))
-        self.tests["states"] = whole, None
-        self.wanted["states"] = ran([native], whole)
+        draw, (whole, parts) = random.Random(SEED), states(random.Random(68))
+        self.tests = {**all_tests(draw), "more data than a packet has": (long_data(draw), None), "states": (whole, None)}
+        self.wanted = by_native(self.at("native"), self.tests)
         resumed, self.wanted["states that go on"] = parts(self.wanted["states"])
         self.tests["states that go on"] = resumed, None
 
@@ -102,7 +103,7 @@ class Room(Folder):
         """The driver of a target over a pocket.c."""
         compiler, flags, emulator = TARGETS[name]
         need(compiler, *emulator[:1])
-        to = self.at(name.replace(", ", "-").replace(" ", "-"))
+        to = self.at(f"{os.path.basename(made)}-{name}".replace(", ", "-").replace(" ", "-"))
         run(compiler, "-std=c99", "-Wall", "-Wextra", "-Werror", "-DPOCKET_ONE_FILE", *flags, "-I", made, "-o", to, DRIVER, f"{made}/pocket.c")
         return [*emulator, to]
 
@@ -149,15 +150,12 @@ def symbols(compiler, flags, made, to):
     return {words[1] for words in told if words[0] == "U"} - {"_GLOBAL_OFFSET_TABLE_"}, {words[2] for words in told if words[1] == "T"}
 
 
-def asks(room, name):
-    """What the file asks for on a processor without an operating system or a C library, beside what is told of it, or None."""
-    compiler, helpers = BARE[name]
+def asks(room, compiler, flags, needs):
+    """What the file asks for beside these names, or which calls it has that flags leave out, or None. No compiler complains."""
     need(compiler[0])
-    for level in ("-Os", "-O3"):
-        asked, _ = symbols(compiler, [level, "-ffreestanding", "-DPOCKET_NO_HEAP", "-DPOCKET_NO_LIBC"], room.made, room.at(f"bare-{name}.o"))
-        if asked - helpers:
-            return f"{level} asks for {sorted(asked - helpers)}"
-    return None
+    asked, calls = symbols(compiler, flags, room.made, room.at(f"{'-'.join([*compiler, *flags])}.o"))
+    left_out = next((call for flag, call in LEFT_OUT.items() if flag in flags), "no call")
+    return f"it asks for {sorted(asked - needs)}" if asked - needs else next((f"it has {call}" for call in sorted(calls) if left_out in call), None)
 
 
 def fails(room, source, flags, *words, compiler="gcc", before=()):
@@ -167,22 +165,6 @@ def fails(room, source, flags, *words, compiler="gcc", before=()):
     run(compiler, "-std=c99", *STRICT, *flags, "-I", room.made, "-o", to, f"{TOP}/tests/c/{source}.c")
     found = run(*before, to, *words).decode().splitlines()[-1]
     return None if found.endswith(" passed, 0 failed") and not found.startswith("0 ") else found
-
-
-def complains(room, compiler):
-    """Whether a compiler takes the file without a flag and without a complaint, and what it asks the C library for."""
-    need(compiler)
-    for flags, needs in (([], LIBC | {"malloc", "free"}), (["-DPOCKET_NO_HEAP"], LIBC), (["-DPOCKET_NO_RECEIVER", "-DPOCKET_NO_HEAP"], LIBC),
-                         (["-DPOCKET_NO_SENDER", "-DPOCKET_NO_HEAP"], LIBC), (["-DPOCKET_UNCHECKED"], LIBC | {"malloc", "free"})):
-        to = room.at(f"{compiler}.o")
-        asked, calls = symbols([compiler], ["-O0" if flags else "-O1", *flags], room.made, to)
-        if asked - needs:
-            return f"{flags} asks for {sorted(asked - needs)}"
-        left_out = {"-DPOCKET_NO_SENDER": "send", "-DPOCKET_NO_RECEIVER": "receive"}.get(flags[0] if flags else "")
-        if left_out and any(left_out in it for it in calls):
-            return f"{flags} has {sorted(calls)}"
-    run(compiler, "-c", f"{room.made}/pocket.c", "-o", to)
-    return None
 
 
 def wrong(room, name):
@@ -195,12 +177,9 @@ def wrong(room, name):
     os.makedirs(folder)
     shutil.copy(f"{room.made}/pocket.h", folder)
     Folder(folder).put("pocket.c", source.replace(text, instead))
-    compiler, _, emulator = TARGETS["powerpc"]
-    need(compiler, *emulator)
-    to = os.path.join(folder, "driver")
-    run(compiler, "-std=c99", "-O1", "-static", "-DPOCKET_ONE_FILE", "-I", folder, "-o", to, DRIVER, f"{folder}/pocket.c")
+    words = room.driver("powerpc", folder)
     lines = "".join(line + "\n" for lines, _ in room.tests.values() for line in lines).encode()
-    found = subprocess.run([*emulator, to], input=lines, capture_output=True, timeout=600).stdout.decode(errors="replace").splitlines()
+    found = subprocess.run(words, input=lines, capture_output=True, timeout=600).stdout.decode(errors="replace").splitlines()
     return "it gives what is right" if found == [line for lines in room.wanted.values() for line in lines] else None
 
 
@@ -235,8 +214,8 @@ def fuzzed_states(room):
 def tries(room):
     """All that is tried beside the making: each with its name, and a function that gives what is wrong, or None."""
     yield "dist/ is what the sources make", lambda: same_as_committed(room)
-    for compiler in ("gcc", "clang"):
-        yield f"{compiler} takes it without a flag or a complaint", lambda c=compiler: complains(room, c)
+    for compiler, (flags, needs) in itertools.product(("gcc", "clang"), HOSTED):
+        yield f"what it asks for: {compiler}, {' '.join(flags)}", lambda c=compiler, f=flags, n=needs: asks(room, [c], f, n)
     for name in TARGETS:
         yield f"{name}: as the library", lambda n=name: compares(room, n)
     file, powerpc = f"{room.made}/pocket.c", {"compiler": TARGETS["powerpc"][0], "before": TARGETS["powerpc"][2]}
@@ -246,8 +225,8 @@ def tries(room):
     yield "the file's own, on powerpc", lambda: fails(room, "one_file", ["-O1", "-static"], "some", **powerpc)
     for name in WRONG:
         yield f"a wrong build fails: {name}", lambda n=name: wrong(room, n)
-    for name in BARE:
-        yield f"what it asks for: {name}", lambda n=name: asks(room, n)
+    for (name, (compiler, needs)), level in itertools.product(BARE.items(), ("-Os", "-O3")):
+        yield f"what it asks for: {name}, {level}", lambda c=compiler, l=level, n=needs: asks(room, c, [l, *FREESTANDING], n)
     checked = ["-O1", "-g", *SANITIZERS, file]
     yield "each bit of a block turned", lambda: fails(room, "upset", [*checked, "-D_POSIX_C_SOURCE=200809L"], "1", "13", "64", "1024")
     yield "the helpers for 64 bits", lambda: fails(room, "helpers", ["-O1"])
