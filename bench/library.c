@@ -1,26 +1,25 @@
-/* library BITS KIND PACKETS WHAT: sends packets by the library, and receives them, for bench/library.py.
+/* library BITS RECORDING PACKETS WHAT FLAGS: sends the packets of a recording, and receives them, for bench/library.py and bench/one_file.py; by
+ * the library or the one file, whichever it is linked with.
  *
- * KIND, how the inputs move: calm, one bit turns in each sixteenth packet; noisy, each bit turns with the chance 1/8; turned, all bits
- * turn, and the mask and the whole content are sent. The required robustness is 2, BITS a multiple of 8.
- *
- * WHAT: inputs, which makes these alone; send; receive, of all that is sent; stack, which tells how deep each
- * call goes, what it calls of the C library included, compares the contents, and tells what the heap was asked for. It is linked with
- * -Wl,--wrap=rattle_alloc, so that that is seen. Instructions are counted from outside, as the difference of runs.
+ * WHAT: inputs, which reads these alone; send; receive, of all that is sent; stack, which tells how deep each call goes, what it calls of the C
+ * library included, and what the heap was asked for: that is seen if the library is linked with -Wl,--wrap=rattle_alloc. FLAGS: never; always,
+ * the mask and the whole content; planned, a new mask each 20 packets, the mask each 50, the whole content each 100. The required robustness
+ * is 2. What is received is compared with its input. Instructions are counted from outside, as the difference of runs.
  */
 #define _XOPEN_SOURCE 700
-#include "../library/pocket.h"
+#include <pocket.h>
 #include "depth.h"
 #include <stdio.h>
 #include <stdlib.h>
 
 struct place { bool found; void *at; };
-struct place __real_rattle_alloc(size_t bytes, size_t align);
+__attribute__((weak)) struct place __real_rattle_alloc(size_t bytes, size_t align);
 struct place __wrap_rattle_alloc(size_t bytes, size_t align);
 
 static uint8_t input[6144], data[1 << 16], content[6144];
 static uint32_t bits, status, number;
 static size_t asked, bytes, length;
-static bool calm, turned, looks;
+static bool always, planned, looks;
 static pocket_handle sender = POCKET_NOTHING, receiver = POCKET_NOTHING;
 
 struct place __wrap_rattle_alloc(size_t size, size_t align)
@@ -47,7 +46,9 @@ static void open_receiver(void)
 static void send_one(void)
 {
     uint8_t level;
-    status |= pocket_send(&sender, input, bytes, false, turned, turned, 2, data, sizeof data, &length, &level);
+    const bool may = planned && number > 0;
+    status |= pocket_send(&sender, input, bytes, may && number % 20 == 0, always || (may && number % 50 == 0), always || (may && number % 100 == 0), 2,
+                          data, sizeof data, &length, &level);
 }
 
 static void receive_one(void)
@@ -72,43 +73,17 @@ static void make(void (*call)(void), size_t *deepest)
     *deepest = depth > *deepest ? depth : *deepest;
 }
 
-/* Bits of which each is a one with the chance 1/8. */
-static uint64_t noise(void)
-{
-    static uint64_t state = 88172645463325252u;
-    uint64_t ones = UINT64_MAX;
-    for (int turn = 0; turn < 3; turn++) {
-        state ^= state << 13;
-        state ^= state >> 7;
-        state ^= state << 17;
-        ones &= state;
-    }
-    return ones;
-}
-
-/* Not put into its caller, so that it takes as many instructions whatever is done beside. */
-__attribute__((noinline)) static void move(void)
-{
-    if (calm)
-        input[0] ^= number % 16 == 1;
-    else if (turned)
-        for (size_t at = 0; at < bytes; at++)
-            input[at] ^= 0xFF;
-    else
-        for (size_t at = 0; at < bytes; at++)
-            input[at] ^= (uint8_t)noise();
-}
-
 int main(int words, char **word)
 {
     size_t deepest[4] = { 0 }, base, of_sender, of_receiver, longest = 0;
-    if (words != 5)
+    FILE *from;
+    if (words != 6 || (from = fopen(word[2], "rb")) == NULL)
         return 2;
     bits = (uint32_t)strtoul(word[1], NULL, 10);
     bytes = POCKET_INPUT_BYTES(bits);
-    calm = is(word[2], "calm");
-    turned = is(word[2], "turned");
     looks = is(word[4], "stack");
+    always = is(word[5], "always");
+    planned = is(word[5], "planned");
     uint32_t packets = (uint32_t)strtoul(word[3], NULL, 10);
     bool receives = looks || is(word[4], "receive"), sends = receives || is(word[4], "send");
     base = looks ? depth_of(nothing) : 0;
@@ -116,13 +91,11 @@ int main(int words, char **word)
     of_sender = asked;
     make(open_receiver, &deepest[1]);
     of_receiver = asked - of_sender;
-    for (number = 0; number < packets && !status; number++) {
-        move();
-        if (sends)
-            make(send_one, &deepest[2]);
-        if (receives)
-            make(receive_one, &deepest[3]);
-        if (looks && memcmp(content, input, bytes) != 0)
+    for (number = 0; number < packets && !status && fread(input, bytes, 1, from) == 1; number++) {
+        /* (in each run as many calls are made and bytes compared, so that these cost the same) */
+        make(sends ? send_one : nothing, &deepest[2]);
+        make(receives ? receive_one : nothing, &deepest[3]);
+        if (memcmp(content, receives ? input : content, bytes) != 0)
             return 3;
         longest = length > longest ? length : longest;
     }
@@ -130,5 +103,5 @@ int main(int words, char **word)
         printf("sender %zu receiver %zu later %zu data %zu opening %zu send %zu receive %zu\n", of_sender, of_receiver,
                asked - of_sender - of_receiver, longest, (deepest[0] > deepest[1] ? deepest[0] : deepest[1]) - base, deepest[2] - base,
                deepest[3] - base);
-    return status != 0;
+    return status != 0 || number != packets;
 }

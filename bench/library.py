@@ -16,6 +16,7 @@ import sys
 import tempfile
 
 import measure
+from recordings import record
 
 HERE = os.path.dirname(os.path.abspath(__file__))
 TOP = os.path.dirname(HERE)
@@ -24,10 +25,10 @@ EMULATORS = {NATIVE: "qemu-x86_64", "aarch64": "qemu-aarch64", "riscv64": "qemu-
 ALONE = "pocket_sender_open pocket_send pocket_receiver_open pocket_receive pocket_counts pocket_close".split()
 FLAGS = "-std=c99 -Wall -Wextra -pedantic -Werror -O2 -static -Wl,--gc-sections -Wl,--wrap=rattle_alloc".split()
 
-# The bits of an input; how many packets of 1,024 bits are counted, and the kinds of inputs.
+# The bits of an input; how many packets of 1,024 bits are counted; and the kinds of inputs (recordings.py) with their flags (library.c).
 BITS = 8, 1024, 49_152
 COUNTED = 480
-KINDS = "calm", "noisy", "turned"
+KINDS = {"calm": "never", "noisy": "never", "turned": "always"}
 
 
 class Processor:
@@ -53,14 +54,10 @@ class Processor:
 
     def build(self):
         beside = [f"{TOP}/library/{name}.c" for name in ("checked", "checked_desk", "heap")] + [self.library]
-        subprocess.run([self.tools + "gcc", *FLAGS, "-o", self.driver, f"{HERE}/library.c", *beside], check=True)
+        subprocess.run([self.tools + "gcc", *FLAGS, "-I", f"{TOP}/library", "-o", self.driver, f"{HERE}/library.c", *beside], check=True)
 
     def sections(self, path):
-        """The bytes of text and constants in a file of objects, and those of its data."""
-        told = subprocess.run([self.tools + "size", "-A", path], check=True, capture_output=True, text=True).stdout
-        found = re.findall(r"^\.(text|rodata|data|bss)\S* +(\d+) ", told, re.M)
-        of = lambda *names: sum(int(size) for name, size in found if name in names)
-        return of("text", "rodata"), of("data", "bss")
+        return measure.sections(self.tools + "size", path)
 
     def alone(self):
         """The sections of senders and receivers without the desk: of the library, with all that they do not need left out."""
@@ -77,22 +74,26 @@ class Processor:
             sys.exit(f"{' '.join(words)}: {run.returncode} {run.stderr[-300:]}")
         return int(found.group(1))
 
+    def recording(self, bits, kind):
+        """The path of a recording of a kind, which has all packets that are counted."""
+        path = f"{self.folder}/{kind}-{bits}"
+        if not os.path.exists(path):
+            record(path, bits, 2 * COUNTED, kind)
+        return path
+
     def calls(self, kind):
-        """The instructions of a send and of a receive: what one packet more costs, without the making of its input."""
-        costs = []
-        for what in ("inputs", "send", "receive"):
-            once, twice = (self.count([self.driver, "1024", kind, str(turn * COUNTED), what]) for turn in (1, 2))
-            costs.append((twice - once) / COUNTED)
-        return round(costs[1] - costs[0]), round(costs[2] - costs[1])
+        """The instructions of a send and of a receive."""
+        return measure.for_one_more(self.count, self.driver, 1024, self.recording(1024, kind), COUNTED, KINDS[kind])
 
     def stack(self, bits, kind):
         """What is told of forty packets: the heap, the data of the longest packet, and the deepest stacks."""
-        words = [self.emulator, self.driver, str(bits), kind, "40", "stack"]
+        words = [self.emulator, self.driver, str(bits), self.recording(bits, kind), "40", "stack", KINDS[kind]]
         told = subprocess.run(words, check=True, capture_output=True, text=True).stdout.split()
         found = {name: int(value) for name, value in zip(told[::2], told[1::2])}
         if found["later"]:
             sys.exit(f"{self.name}: a send or a receive asked for memory")
         return found
+
 
 def sizes(processors):
     """The rows of sizes and stacks."""

@@ -58,9 +58,20 @@ def instructions(words):
     return int(found.group(1))
 
 
-def for_one_more(once, twice, packets):
-    """The instructions that one packet more costs: of a run over so many packets, and of one over twice as many."""
-    return (instructions(twice) - instructions(once)) / packets
+def for_one_more(count, driver, bits, recording, packets, flags):
+    """The instructions of a send and of a receive by a driver (library.c): what one packet more of a recording costs, without the reading of its
+    input. `count` gives the instructions of one run."""
+    words = lambda times, what: [driver, str(bits), recording, str(times * packets), what, flags]
+    inputs, send, receive = ((count(words(2, what)) - count(words(1, what))) / packets for what in ("inputs", "send", "receive"))
+    return round(send - inputs), round(receive - send)
+
+
+def sections(tool, path):
+    """The bytes of text and constants in a file of objects, and those of its data, as a compiler's `size` tells them."""
+    told = subprocess.run([tool, "-A", path], check=True, capture_output=True, text=True).stdout
+    found = re.findall(r"^\.s?(text|rodata|data|bss)\S* +(\d+) ", told, re.M)
+    of = lambda *names: sum(int(size) for name, size in found if name in names)
+    return of("text", "rodata"), of("data", "bss")
 
 
 def load():

@@ -40,11 +40,9 @@ def run(words, where=None):
 
 def sections(dist, folder, compiler, flags):
     """The bytes of text and constants of the file at -Os, and those of its data."""
-    made, size = os.path.join(folder, "sized.o"), re.sub(r"gcc$", "size", compiler)
+    made = os.path.join(folder, "sized.o")
     run([compiler, "-std=c99", "-Os", *flags, "-c", f"{dist}/pocket.c", "-o", made])
-    found = re.findall(r"^\.s?(text|rodata|data|bss)\S* +(\d+) ", run([size, "-A", made]), re.M)
-    of = lambda *names: sum(int(bytes_) for name, bytes_ in found if name in names)
-    return of("text", "rodata"), of("data", "bss")
+    return measure.sections(re.sub(r"gcc$", "size", compiler), made)
 
 
 def sizes(dist, folder):
@@ -57,7 +55,7 @@ def sizes(dist, folder):
 
 def built(dist, folder, name, compiler, flags, others):
     to = os.path.join(folder, name.replace(" ", "-"))
-    run([compiler, "-std=gnu99", "-O2", *flags, "-I", dist, "-o", to, f"{HERE}/one_file.c", *others])
+    run([compiler, "-std=gnu99", "-O2", *flags, "-I", dist, "-o", to, f"{HERE}/library.c", *others])
     return to
 
 
@@ -69,14 +67,6 @@ def memories(dist, folder):
         yield bits, file.pocket_sender_bytes(bits), file.pocket_receiver_bytes(bits), file.pocket_state_bytes(bits, 1), file.pocket_state_bytes(bits, 2)
 
 
-def costs(program, kind, recording):
-    """The instructions of a send and of a receive of one packet more."""
-    packets = kind.counted
-    words = lambda times, what: [program, str(kind.bits), recording, str(times * packets), what, "1" if kind.schedule else "0"]
-    inputs, send, receive = (measure.for_one_more(words(1, what), words(2, what), packets) for what in ("inputs", "send", "receive"))
-    return send - inputs, receive - send
-
-
 def packets(dist, folder, only):
     """The rows of instructions beside the library's."""
     library = [f"{TOP}/library/checked.c", f"{TOP}/crates/pocket_c/out/libpocket_c.a", f"{TOP}/library/heap.c"]
@@ -86,8 +76,9 @@ def packets(dist, folder, only):
     for kind in KINDS[:2] if only else KINDS:
         recording = os.path.join(folder, "recording")
         record(recording, kind.bits, 2 * kind.counted, kind.moves)
-        sends, receives = zip(*(costs(program, kind, recording) for program in (native, checked, unchecked)))
-        yield kind.name, kind.bits, *map(round, sends + receives)
+        flags = "planned" if kind.schedule else "never"
+        found = [measure.for_one_more(measure.instructions, it, kind.bits, recording, kind.counted, flags) for it in (native, checked, unchecked)]
+        yield kind.name, kind.bits, *(send for send, _ in found), *(receive for _, receive in found)
 
 
 def deepest(text, calls):

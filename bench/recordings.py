@@ -2,7 +2,12 @@
 
 import collections
 import itertools
+import os
 import random
+import sys
+
+sys.path.insert(0, os.path.join(os.path.dirname(os.path.dirname(os.path.abspath(__file__))), "tests"))
+from packets import packets_of
 
 LAST = 2**32 - 1
 
@@ -25,22 +30,25 @@ KINDS = [
 ]
 
 
-def moved(now, bits, moves, draw, half):
-    """The bits of the next packet, of half or all bits noisy: each of these turns with the chance 1/8."""
+def moved(now, place, bits, moves, draw, half):
+    """The bits of the next packet, whose moves are not quiet."""
+    if moves in ("calm", "turned"):
+        return now ^ ((1 << bits) - 1 if moves == "turned" else (place % 16 == 1) << bits - 8)
     turned = draw.getrandbits(bits) & draw.getrandbits(bits) & draw.getrandbits(bits)
     return now ^ (turned & half if moves == "half" else turned)
 
 
 def inputs(bits, packets, moves, seed):
     """The packets of a recording, as numbers. quiet: a counter of 16 bits moves in every fourth packet, and in one of ten one of 32
-    bits turns; half: each bit of a random half turns with the chance 1/8; noisy: each bit does."""
+    bits turns; half: each bit of a random half turns with the chance 1/8; noisy: each bit does; calm: one bit turns in each sixteenth packet;
+    turned: all bits turn."""
     draw = random.Random(seed)
     wide, now = min(16, bits), draw.getrandbits(bits)
     half, turning = draw.getrandbits(bits), [draw.randrange(bits) for _ in range(32)]
     rest = (1 << (bits - wide)) - 1
     for place in range(packets):
         if moves != "quiet":
-            now = moved(now, bits, moves, draw, half)
+            now = moved(now, place, bits, moves, draw, half)
         else:
             if place % 4 == 0:
                 now = now & rest | (place // 4 % (1 << wide)) << (bits - wide)
@@ -55,15 +63,6 @@ def record(path, bits, packets, moves="quiet", seed=None):
     with open(path, "wb", buffering=1 << 20) as out:
         for now in inputs(bits, packets, moves, bits if seed is None else seed):
             out.write((now << 8 * size - bits).to_bytes(size, "big"))
-
-
-def packets_of(store):
-    """The Space Packets of a store."""
-    at = 0
-    while at < len(store):
-        end = at + 7 + int.from_bytes(store[at + 4:at + 6], "big")
-        yield store[at:end]
-        at = end
 
 
 def read(path):
