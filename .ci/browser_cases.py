@@ -6,6 +6,7 @@ import random
 import subprocess
 import tempfile
 
+from packets import packets_of
 from rows import DATA, TEXTS, VERBS, WORDS, sample
 
 # No row has more: the page's own limit of words, and texts that would make the page large.
@@ -24,19 +25,9 @@ def is_told(row):
             and all(isinstance(content, bytes) and len(content) < MOST_BYTES for content in row["before"].values()))
 
 
-def packets_of(store):
-    """The packets of a store."""
-    packets, place = [], 0
-    while place < len(store):
-        end = place + 7 + int.from_bytes(store[place + 4:place + 6], "big")
-        packets.append(store[place:end])
-        place = end
-    return packets
-
-
 def scattered(store):
     """The packets of a store out of order: each at most some places from its own."""
-    draw, packets = random.Random(SEED), packets_of(store)
+    draw, packets = random.Random(SEED), list(packets_of(store))
     order = sorted(range(len(packets)), key=lambda t: t + draw.random() * SCATTERED)
     return b"".join(packets[t] for t in order)
 

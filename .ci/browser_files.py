@@ -6,7 +6,8 @@ import pathlib
 import random
 import re
 
-from browser_cases import packets_of, ran
+from browser_cases import ran
+from packets import packets_of
 from rows import sample
 
 MILLION, GIGABYTE = 1_000_000, 1 << 30

@@ -13,7 +13,7 @@ import time
 from concurrent.futures import ThreadPoolExecutor
 
 import redis
-from packets import packets_of
+from packets import moving, packets_of
 from program import TOP, Folder, wait_for
 
 FLEET = os.path.join(TOP, "library", "examples", "fleet")
@@ -89,10 +89,7 @@ class Fleet(Folder):
 
     def sent(self, apid, bits, number):
         """The packets of a recording of which few places move."""
-        own, recording = self.draw.getrandbits(bits), b""
-        for _ in range(number):
-            own ^= 1 << self.draw.randrange(bits) | 1 << self.draw.randrange(8)
-            recording += (own << -bits % 8).to_bytes((bits + 7) // 8, "big")
+        recording = b"".join(moving(self.draw, bits, number))
         return list(packets_of(self.run("compress", "in=-", "out=-", f"bits={bits}", f"apid={apid}", "robust=1", "plan=plan", given=recording)))
 
     def arrived(self, streams):

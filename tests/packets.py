@@ -1,5 +1,5 @@
-"""Space Packets and transfer frames, made and taken apart by hand after CCSDS 133.0-B and 132.0-B: no code is shared with the program or the
-Python module."""
+"""Contents, Space Packets and transfer frames, made and taken apart by hand after CCSDS 133.0-B and 132.0-B: no code is shared with the program
+or the Python module."""
 
 import itertools
 import struct
@@ -14,10 +14,20 @@ def packet(apid, number, data):
 
 def packets_of(store):
     """The Space Packets of a store, in order."""
-    while store:
-        size = 7 + int.from_bytes(store[4:6], "big")
-        yield store[:size]
-        store = store[size:]
+    at = 0
+    while at < len(store):
+        end = at + 7 + int.from_bytes(store[at + 4:at + 6], "big")
+        yield store[at:end]
+        at = end
+
+
+def moving(draw, bits, count):
+    """Contents of packets of which few places move."""
+    own = draw.getrandbits(bits)
+    for _ in range(count):
+        own ^= 1 << draw.randrange(min(bits, 8))
+        own = draw.getrandbits(bits) if draw.random() < 0.05 else own
+        yield (own << -bits % 8).to_bytes((bits + 7) // 8, "big")
 
 
 def control_of(frame):

@@ -11,7 +11,7 @@ import sys
 import tempfile
 import unittest
 
-from packets import frame_of, laid, packets_of
+from packets import frame_of, laid, moving, packets_of
 from program import PROGRAM, TOP, Folder, text_of
 from table import table
 
@@ -30,15 +30,9 @@ BEFORE, DUMPED, AFTER = 12000, 5000, 3000
 
 
 def housekeeping(draw, bits, count):
-    """Packets of which few places move, each for a while."""
-    size, own = -(-bits // 8), [0] * -(-bits // 8)
-    for number in range(count):
-        for _ in range(draw.randrange(3)):
-            own[draw.randrange(size)] ^= 1 << draw.randrange(8)
-        own[-1] &= 0xFF << (-bits % 8) & 0xFF
-        if bits == 64:
-            own[1:3] = (draw.randrange(-1000, 1000) & 0xFFFF).to_bytes(2, "big")
-        yield bytes(own)
+    """Contents of which few places move; those of 64 bits have a current."""
+    for own in moving(draw, bits, count):
+        yield own[:1] + draw.randrange(-1000, 1000).to_bytes(2, "big", signed=True) + own[3:] if bits == 64 else own
 
 
 def over_a_link(draw, sent, late):

@@ -8,19 +8,10 @@ import random
 import zlib
 
 from library import LibraryTest
-from packets import packet
+from packets import moving, packet
 from pocket import BitsOutOfRange, NoState, Receiver, Receivers, Sender, StoreError
 
 STREAMS, STORED = 60, os.path.join(os.path.dirname(os.path.abspath(__file__)), "states")
-
-
-def contents(draw, bits, count):
-    """Packets of which few places move."""
-    own = draw.getrandbits(bits)
-    for _ in range(count):
-        own ^= 1 << draw.randrange(min(bits, 8))
-        own = draw.getrandbits(bits) if draw.random() < 0.05 else own
-        yield (own << -bits % 8).to_bytes((bits + 7) // 8, "big")
 
 
 def again(draw, held):
@@ -44,7 +35,7 @@ class States(LibraryTest):
             bits, robustness = draw.choice([1, 7, 8, 13, 64, 100, 1024]), draw.randrange(8)
             sender, whole, receiver, other = Sender(bits), Sender(bits), Receiver(bits), Receiver(bits)
             with self.subTest(stream):
-                for number, content in enumerate(contents(draw, bits, 60)):
+                for number, content in enumerate(moving(draw, bits, 60)):
                     flags = {name: number > 0 and draw.random() < 0.1 for name in ("new_mask", "send_mask", "whole")}
                     sent = sender.send(content, robustness, **flags)
                     self.assertEqual(sent, whole.send(content, robustness, **flags))
@@ -60,7 +51,7 @@ class States(LibraryTest):
     def test_refused(self):
         """What is no state is refused, whatever byte it is, and changes nothing."""
         with Sender(100) as sender, Receiver(100) as receiver:
-            for number, content in enumerate(contents(random.Random(6), 100, 20)):
+            for number, content in enumerate(moving(random.Random(6), 100, 20)):
                 receiver.receive(number, sender.send(content, 2).data)
             for held, other in ((sender, receiver), (receiver, sender)):
                 state = held.save()
@@ -83,7 +74,7 @@ class States(LibraryTest):
             state = pathlib.Path(STORED, name).read_bytes()
             sender, receiver = Sender(int(bits)), Receiver(int(bits))
             with self.subTest(name):
-                for number, content in enumerate(contents(random.Random(int(bits)), int(bits), 40)):
+                for number, content in enumerate(moving(random.Random(int(bits)), int(bits), 40)):
                     if number == 30 and kind == "sender":
                         sender = Sender.load(state)
                     if number == 30 and kind == "receiver":
