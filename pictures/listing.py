@@ -38,9 +38,9 @@ LINES = [(kind, re.compile(text)) for kind, text in [
 class Packet:
     """What became of the packet of one number, or of several in a row."""
 
-    def __init__(self, kind, level=None, detail="", mask="", content=""):
-        self.kind, self.level, self.detail, self.mask, self.content, self.repeats = kind, level, detail, mask, content, 0
-        self.first = self.last = 0
+    def __init__(self, kind, first=0, last=None, level=None, detail="", mask="", content="", repeats=0):
+        self.kind, self.first, self.last = kind, first, first if last is None else last
+        self.level, self.detail, self.mask, self.content, self.repeats = level, detail, mask, content, repeats
         self.kinds = None
 
     def told(self):
@@ -55,13 +55,6 @@ class Packet:
         return self.last - self.first + 1
 
 
-def add(packets, packet, count=1):
-    """Adds packets of the numbers that come next."""
-    packet.first = packets[-1].last + 1 if packets else 0
-    packet.last = packet.first + count - 1
-    packets.append(packet)
-
-
 def read_line(kind, found, packets):
     """Adds what a line of a listing tells to the packets before it, or says what is wrong."""
     group = found.group
@@ -74,18 +67,17 @@ def read_line(kind, found, packets):
     if int(group(1)) != comes:
         return f"packet {comes} comes next"
     if kind == "lost":
-        count = int(group(2)) - int(group(1)) + 1
-        for _ in range(count if count <= TOGETHER else 1):
-            add(packets, Packet("lost"), 1 if count <= TOGETHER else count)
-        return "its last number is below its first" if count < 1 else None
+        last = int(group(2))
+        packets += [Packet(kind, comes, last)] if last - comes >= TOGETHER else [Packet(kind, number) for number in range(comes, last + 1)]
+        return "its last number is below its first" if last < comes else None
     if kind == "written":
-        add(packets, Packet(kind, int(group(2)), f", level {group(2)}", ", its mask is not known" if group(3) == "-" else "", group(4)))
+        packets.append(Packet(kind, comes, None, int(group(2)), f", level {group(2)}", ", its mask is not known" if group(3) == "-" else "", group(4)))
     elif kind == "gap":
-        add(packets, Packet(kind, int(group(2)), f", level {group(2)}", ", its mask is known" if group(3) else ""))
+        packets.append(Packet(kind, comes, None, int(group(2)), f", level {group(2)}", ", its mask is known" if group(3) else ""))
     elif kind == "unsynced":
-        add(packets, Packet(kind, None, "", ", its mask is known" if group(2) else ""))
+        packets.append(Packet(kind, comes, mask=", its mask is known" if group(2) else ""))
     else:
-        add(packets, Packet(kind, None, f", {'bit' if kind == 'wrong' else 'bits'} {group(2)}"))
+        packets.append(Packet(kind, comes, detail=f", {'bit' if kind == 'wrong' else 'bits'} {group(2)}"))
     return "a level is at most 15" if (packets[-1].level or 0) > 15 else None
 
 
@@ -122,9 +114,8 @@ def together(packets):
         return packets[0]
     worst = max(packets, key=lambda packet: list(KINDS).index(packet.kind))
     levels = [packet.level for packet in packets if packet.kind == worst.kind and packet.level is not None]
-    found = Packet(worst.kind, min(levels, default=None))
-    found.first, found.last, found.kinds = packets[0].first, packets[-1].last, totals(packets)
-    found.repeats = sum(packet.repeats for packet in packets)
+    found = Packet(worst.kind, packets[0].first, packets[-1].last, min(levels, default=None), repeats=sum(packet.repeats for packet in packets))
+    found.kinds = totals(packets)
     return found
 
 
@@ -153,16 +144,14 @@ def cell(x, y, width, height, packet):
 def legend(x, y, packets):
     """What the cells mean, and how many there are of each; of those that are there alone."""
     counts = totals(packets)
-    rows = [(Packet(kind, 6 if kind == "written" else None), f"{counts[kind]} {KINDS[kind][3]}") for kind in KINDS if counts[kind]]
+    rows = [(Packet(kind, level=6 if kind == "written" else None), f"{counts[kind]} {KINDS[kind][3]}") for kind in KINDS if counts[kind]]
     if any(packet.mask and packet.kind == "written" for packet in packets):
-        rows.append((Packet("written", 0, mask="-"), "dash: written, and its mask is not known"))
-    if any(packet.mask and packet.kind != "written" for packet in packets):
-        kind = next(packet.kind for packet in packets if packet.mask and packet.kind != "written")
-        rows.append((Packet(kind, mask="m"), "dot: its mask is known, its content is not"))
+        rows.append((Packet("written", mask="-"), "dash: written, and its mask is not known"))
+    known = [packet.kind for packet in packets if packet.mask and packet.kind != "written"]
+    if known:
+        rows.append((Packet(known[0], mask="m"), "dot: its mask is known, its content is not"))
     if any(packet.repeats for packet in packets):
-        again = Packet("written", 0)
-        again.repeats = 1
-        rows.append((again, f"ring: repeats arrived, {sum(packet.repeats for packet in packets)} in all"))
+        rows.append((Packet("written", repeats=1), f"ring: repeats arrived, {sum(packet.repeats for packet in packets)} in all"))
     parts = [cell(x, y + 20 * place, 14, 14, packet) + words(x + 22, y + 20 * place + 12, text) for place, (packet, text) in enumerate(rows)]
     return parts, y + 20 * len(rows)
 
