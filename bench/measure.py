@@ -86,13 +86,9 @@ def told_by(script, how, before):
 
 def processor():
     """The name of the machine's processor."""
-    name = platform.processor() or platform.machine()
-    try:
-        with open("/proc/cpuinfo", encoding="utf-8") as lines:
-            name = next(line.partition(":")[2].strip() for line in lines if line.startswith("model name"))
-    except (OSError, StopIteration):
-        pass
-    return name
+    with open("/proc/cpuinfo", encoding="utf-8") as file:
+        names = re.findall(r"^model name\s*: (.*)$", file.read(), re.M)
+    return names[0] if names else platform.processor() or platform.machine()
 
 
 def number(value):

@@ -89,6 +89,12 @@ class LibraryTest(unittest.TestCase):
         run(compiler, *standard, *STRICT, *flags, "-I" + os.path.join(TOP, "library"), own, "-x", "none", self.room.at("libpocket.a"), "-o", self.room.at(name))
         return self.room.at(name)
 
+    def refuses(self, kind, text, call, *words):
+        """A call raises an error of this kind, and no other, with this text, or with any if that is None."""
+        with self.assertRaises(kind) as refusal:
+            call(*words)
+        self.assertEqual((type(refusal.exception), text or str(refusal.exception)), (kind, str(refusal.exception)))
+
     def passes(self, *words):
         """Runs a program of tests, which has to have some and to pass all."""
         self.assertRegex(run(*words), rb"(?m)^[1-9]\d* passed, 0 failed$")

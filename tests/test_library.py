@@ -23,28 +23,21 @@ HEADER = text_of("library/pocket.h")
 
 class Installed(LibraryTest):
     def test_make_install(self):
-        """The library is installed, pkg-config's file leads to it, and `make uninstall` removes it."""
-        root, words = self.room.at("root"), ("DESTDIR=" + self.room.at("root"), "PREFIX=/usr")
+        """The library is installed, pkg-config's file leads to it, the system's Python finds the module, of this version, and that the library,
+        if both lie where it looks; and `make uninstall` removes all of it."""
+        need(PYTHON)
+        root, words, version = self.room.at("root"), ("DESTDIR=" + self.room.at("root"), "PREFIX=/usr/local"), re.search(r'POCKET_VERSION "(.*)"', HEADER)[1]
         self.make("install", *words)
         for name in "include/pocket.h lib/libpocket.a lib/libpocket.so lib/libpocket.so.1 lib/pkgconfig/pocket.pc".split():
-            self.assertTrue(os.path.exists(f"{root}/usr/{name}"), name)
-        text = text_of("usr/lib/pkgconfig/pocket.pc", root)
-        self.assertRegex(text, r"(?m)^prefix=/usr$")
-        self.assertIn(f'#define POCKET_VERSION "{re.search(r"^Version: (.+)$", text, re.M)[1]}"', HEADER)
-        self.make("uninstall", *words)
-        self.assertEqual([name for _, _, names in os.walk(root) for name in names], [])
-
-    def test_module(self):
-        """The system's Python finds the installed module, of this version, and that the library, if both lie where it looks."""
-        need(PYTHON)
-        root = self.room.at("local")
-        self.make("install", "DESTDIR=" + root, "PREFIX=/usr/local")
-        folder = run("make", "-s", "--eval=where: ; @echo $(MODULES)", "where").decode().strip()
+            self.assertTrue(os.path.exists(f"{root}/usr/local/{name}"), name)
+        self.assertRegex(text_of("usr/local/lib/pkgconfig/pocket.pc", root), rf"(?ms)^prefix=/usr/local$.*^Version: {re.escape(version)}$")
+        folder = run("make", "-s", "--eval=where: ; @echo $(MODULES)", "where", *words).decode().strip()
         env = {"PATH": os.environ["PATH"], "PYTHONPATH": root + folder, "LD_LIBRARY_PATH": root + "/usr/local/lib", "PYTHONDONTWRITEBYTECODE": "1"}
         self.assertIn(folder, run(PYTHON, "-E", "-c", "import sys; print('\\n'.join(sys.path))").decode().split("\n"))
         code = "import pocket; print(pocket.__version__, pocket.__file__, pocket.Sender(8).send(b'\\xb0', 1).data.hex())"
-        version = re.search(r'POCKET_VERSION "(.*)"', HEADER)[1]
         self.assertEqual(run(PYTHON, "-c", code, env=env, cwd="/").decode(), f"{version} {root}{folder}/pocket/__init__.py 85b8d600\n")
+        self.make("uninstall", *words)
+        self.assertEqual([name for _, _, names in os.walk(root) for name in names], [])
 
     def test_pip(self):
         """`pip install .` brings the library along: into a folder of its own, by Debian's packages, without a registry."""

@@ -67,23 +67,17 @@ class Misuse(LibraryTest):
             self.twice(lambda: desk.run("compress", "in=x", "out=y", "bits=8", "apid=100", "robust=1"))
             self.assertEqual(desk.get("y")[6:], DATA)
 
-    def refuses(self, kind, call, *words):
-        """A call raises an error of this kind, and no other."""
-        with self.assertRaises(kind) as error:
-            call(*words)
-        self.assertIs(type(error.exception), kind)
-
     def test_openings(self):
         """A second opening is refused and changes nothing."""
         with Receiver(49152) as receiver, Sender(8) as sender, Desk() as desk:
-            self.refuses(PocketError, receiver.__init__, 49152)
+            self.refuses(PocketError, None, receiver.__init__, 49152)
             self.assertEqual(receiver.counts(), Counts(0, 0, 0, 0))
-            self.refuses(PocketError, sender.__init__, 8)
+            self.refuses(PocketError, None, sender.__init__, 8)
             self.assertEqual(sender.send(CONTENT, 1).data, DATA)
-            self.refuses(PocketError, desk.__init__)
+            self.refuses(PocketError, None, desk.__init__)
             self.assertEqual(desk.get("x"), b"")
-        self.refuses(PocketError, sender.__init__, 8)
-        self.refuses(Closed, sender.send, CONTENT)
+        self.refuses(PocketError, None, sender.__init__, 8)
+        self.refuses(Closed, None, sender.send, CONTENT)
 
     def test_memory(self):
         """A second opening takes no memory, nor do receivers that nobody closed."""
@@ -100,5 +94,5 @@ class Misuse(LibraryTest):
                      (desk.get, b"x"), (desk.get, None), (Sender.load, "x"), (Receiver.load, None)]
             for call, *words in calls:
                 with self.subTest(call.__name__, words=words):
-                    self.refuses(TypeError, call, *words)
+                    self.refuses(TypeError, None, call, *words)
             self.assertEqual((sender.send(CONTENT, 1).data, receiver.counts()), (DATA, Counts(0, 0, 0, 0)))

@@ -15,23 +15,10 @@ from program import PROGRAM, SAMPLES, TOP, text_of
 
 PAGES = ["README.md", "docs/OPERATING.md"]
 LIMIT = 120
+# A command and the lines of its block after it, up to the next one.
+COMMAND = re.compile(r"^    \$ (.*)\n((?:    (?!\$ ).*\n)*)", re.M)
 # What a page says is typed before its commands, at the top of a clone where nothing is installed.
 FIRST = re.compile(r"^    (export PYTHONPATH=.*)$", re.M)
-
-
-def commands(text):
-    """The commands of a page, each with what it prints."""
-    found, open_block = [], False
-    for line in text.splitlines():
-        text = line[4:] if line.startswith("    ") else None
-        if text is None:
-            open_block = False
-        elif text.startswith("$ "):
-            found.append((text[2:], []))
-            open_block = True
-        elif open_block:
-            found[-1][1].append(text)
-    return found
 
 
 def said(command, folder, path, first):
@@ -51,8 +38,8 @@ def ran(page):
         os.mkdir(path)
         shutil.copy(PROGRAM, os.path.join(path, "pocket"))
         first = (FIRST.search(text) or [None, ":"])[1]
-        for command, wanted in commands(text):
-            yield command, said(command, folder, path, first), wanted
+        for command, printed in COMMAND.findall(text):
+            yield command, said(command, folder, path, first), [line[4:] for line in printed.splitlines()]
 
 
 class Printed(unittest.TestCase):

@@ -14,12 +14,6 @@ CLOSED = "it is closed"
 
 
 class Python(LibraryTest):
-    def refuses(self, kind, text, call, *words):
-        """A call raises an error of this kind, with this text."""
-        with self.assertRaises(pocket.PocketError) as refusal:
-            call(*words)
-        self.assertEqual((type(refusal.exception), str(refusal.exception)), (kind, text))
-
     def wrong_calls(self, sender, receiver):
         for content in (b"\xb0\x00", b""):
             self.refuses(pocket.WrongLength, "the input has the wrong length", sender.send, content)
