@@ -88,6 +88,19 @@ def constants(code):
     return "static const uint8_t constants[] = {\n" + ",\n".join(lines) + "\n};\n"
 
 
+def machine():
+    """The text of machine.c with all accesses, by the names that wasm2c gives them: each of an address, and of a place in the memory."""
+    made = ""
+    for wide, bits in ((wide, bits) for wide in (32, 64) for bits in (8, 16, 32, 64) if bits <= wide):
+        size = "" if bits == wide else bits
+        for sign, cast in (("", ""),) if bits == wide else (("_u", ""), ("_s", f"(s{wide})(s{bits})")):
+            made += f"#define i{wide}_load{size}{sign}(to, address, by) LOAD({bits}, (u{wide}){cast}, to, address, by)\n"
+            made += f"#define i{wide}_load{size}{sign}_at(to, at, by) to = (u{wide}){cast}get{bits}((at) + (by))\n"
+        made += f"#define i{wide}_store{size}(value, address, by) STORE({bits}, value, address, by)\n"
+        made += f"#define i{wide}_store{size}_at(value, at, by) put{bits}((at) + (by), (u{bits})(value))\n"
+    return text_of("machine.c").replace("/* @accesses@ */\n", made)
+
+
 def joined(code, names, guard=None):
     """The prototypes and bodies of these functions of a module, left out if the guard is defined."""
     functions = [it for name, it in code.functions.items() if name in names]
@@ -125,7 +138,7 @@ def calls(kept, kit):
     before, after = text_of("calls.c").split("/* @generated@ */\n")
     named = "".join(f"#define {name} {value}\n" for name, value in numbers.items())
     head = text_of("head.c").replace("@VERSION@", version())
-    return f"{head}\n{named}\n{constants(code)}{text_of('machine.c')}\n{before}\n{quiet(generated(code, states))}\n{after}\n{text_of('state.c')}\n{checked()}"
+    return f"{head}\n{named}\n{constants(code)}{machine()}\n{before}\n{quiet(generated(code, states))}\n{after}\n{text_of('state.c')}\n{checked()}"
 
 
 def keys_of_verbs():
@@ -170,7 +183,7 @@ def program(kept, kit):
     named = "".join(f"#define {name} {value}\n" for name, value in numbers.items())
     text = joined(code, code.reached(DESK))
     head = text_of("program_head.c").replace("@VERSION@", version())
-    before = [head, named, constants(code) + text_of("machine.c"), text_of("allocator.c")]
+    before = [head, named, constants(code) + machine(), text_of("allocator.c")]
     return "\n".join([*before, quiet(text), helps(), text_of("files.c"), text_of("program.c")])
 
 
