@@ -80,14 +80,6 @@ def module_of(kept, exports, kit, **how):
         return text_of(made)
 
 
-def constants(code):
-    """The constants of a module, as an array."""
-    if not code.data:
-        return ""
-    lines = [", ".join(str(it) for it in code.data[at:at + 24]) for at in range(0, len(code.data), 24)]
-    return "static const uint8_t constants[] = {\n" + ",\n".join(lines) + "\n};\n"
-
-
 def machine():
     """The text of machine.c with all accesses, by the names that wasm2c gives them: each of an address, and of a place in the memory."""
     made = ""
@@ -99,6 +91,15 @@ def machine():
         made += f"#define i{wide}_store{size}(value, address, by) STORE({bits}, value, address, by)\n"
         made += f"#define i{wide}_store{size}_at(value, at, by) put{bits}((at) + (by), (u{bits})(value))\n"
     return text_of("machine.c").replace("/* @accesses@ */\n", made)
+
+
+def front(head, code, **more):
+    """The front of a file: its head, the numbers of a module and more of them, the constants of the module as an array, and the machine."""
+    numbers = {"STACK_TOP": f"{code.top}u", "HEAP_BASE": f"{code.heap}u", "CONSTANT_BYTES": len(code.data), **more}
+    named = "".join(f"#define {name} {value}\n" for name, value in numbers.items())
+    lines = ",\n".join(", ".join(str(it) for it in code.data[at:at + 24]) for at in range(0, len(code.data), 24))
+    constants = f"static const uint8_t constants[] = {{\n{lines}\n}};\n" if code.data else ""
+    return f"{text_of(head).replace('@VERSION@', version())}\n{named}\n{constants}{machine()}\n"
 
 
 def joined(code, names, guard=None):
@@ -133,12 +134,9 @@ def calls(kept, kit):
     code, states = translate.module_of(text, "code", joins=True), translate.module_of(text, "state", joins=False)
     deepest = code.deepest(SENDER + RECEIVER + STATES)
     check_stack(deepest)
-    numbers = {"STACK_TOP": f"{code.top}u", "HEAP_BASE": f"{code.heap}u", "CONSTANT_BYTES": len(code.data), "DEEPEST": deepest,
-               "STACK_BYTES": "POCKET_STACK_BYTES"}
     before, after = text_of("calls.c").split("/* @generated@ */\n")
-    named = "".join(f"#define {name} {value}\n" for name, value in numbers.items())
-    head = text_of("head.c").replace("@VERSION@", version())
-    return f"{head}\n{named}\n{constants(code)}{machine()}\n{before}\n{quiet(generated(code, states))}\n{after}\n{text_of('state.c')}\n{checked()}"
+    begin = front("head.c", code, DEEPEST=deepest, STACK_BYTES="POCKET_STACK_BYTES")
+    return f"{begin}{before}\n{quiet(generated(code, states))}\n{after}\n{text_of('state.c')}\n{checked()}"
 
 
 def keys_of_verbs():
@@ -178,13 +176,9 @@ def helps():
 def program(kept, kit):
     """The text of pocket-program.c."""
     code = translate.module_of(module_of(kept, DESK, kit), "code", joins=True)
-    numbers = {"STACK_TOP": f"{code.top}u", "HEAP_BASE": f"{code.heap}u", "CONSTANT_BYTES": len(code.data), "STACK_BYTES": f"{PROGRAM_STACK}u",
-               "VERSION": f'"{version()}"'}
-    named = "".join(f"#define {name} {value}\n" for name, value in numbers.items())
+    begin = front("program_head.c", code, STACK_BYTES=f"{PROGRAM_STACK}u", VERSION=f'"{version()}"')
     text = joined(code, code.reached(DESK))
-    head = text_of("program_head.c").replace("@VERSION@", version())
-    before = [head, named, constants(code) + machine(), text_of("allocator.c")]
-    return "\n".join([*before, quiet(text), helps(), text_of("files.c"), text_of("program.c")])
+    return begin + "\n".join([text_of("allocator.c"), quiet(text), helps(), text_of("files.c"), text_of("program.c")])
 
 
 def main():
