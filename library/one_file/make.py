@@ -192,8 +192,7 @@ def main():
     for name, text in made.items():
         pathlib.Path(folder, name).write_text(text, "utf-8")
     shutil.copyfile(f"{TOP}/library/pocket.h", os.path.join(folder, "pocket.h"))
-    return 0
 
 
 if __name__ == "__main__":
-    sys.exit(main())
+    main()
