@@ -121,8 +121,8 @@ static POCKET_MAYBE_UNUSED u32 gives_length(u8 *m, u32 room, size_t *length) {
     return POCKET_DONE;
 }
 
-/* Puts bytes at an address, and a zero after them; of more than there is room for, the first. Gives how many the generated part is told:
- * as many as there are, but one more than the room at most. */
+/* Puts bytes at an address; of more than there is room for, the first. Gives how many the generated part is told: as many as there are, but
+ * one more than the room at most. */
 static u32 given(u8 *m, u32 at, const u8 *bytes, size_t length, u32 room) {
     const u32 count = length > room ? room : (u32)length;
     memcpy(place(at), bytes, count);
