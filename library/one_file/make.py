@@ -2,7 +2,8 @@
 """Makes the C files that any compiler takes: library/one_file/make.py MODULE FOLDER writes FOLDER/pocket.c, the calls of a sender and a
 receiver, FOLDER/pocket.h, and FOLDER/pocket-program.c, the program.
 
-MODULE is the module that library/retarget.py kept as the library was proved and built for x86-64 (crates/pocket_c/out/module.bc).
+MODULE is the module that library/retarget.py kept as the library was proved and built for x86-64 (crates/pocket_c/out/module.bc). The
+program's helps are those that the proved one, crates/pocket/out/pocket, prints.
 library/module.py turns it to WebAssembly, for the calls without what left_out.py leaves out, Debian's wasm2c (the package wabt) turns that to C, and translate.py and joined.py that to the generated part,
 which is joined with what is written by hand: machine.c, calls.c, state.c, null_checks.c and the library's checked.c for the calls; machine.c, allocator.c, files.c and program.c for the program.
 So the files are compiled another way: compared (tests/test_one_file.py), not proved. Two runs give the same bytes.
@@ -29,7 +30,7 @@ SENDER = ["pocket_sender_open", "pocket_sender_reset", "pocket_send", "pocket_se
 RECEIVER = ["pocket_receiver_open", "pocket_receiver_reset", "pocket_receive", "pocket_counts"]
 STATES = ["pocket_save", "pocket_load"]
 DESK = ["pocket_desk_open", "pocket_put", "pocket_word", "pocket_run", "pocket_get"]
-PROGRAM_STACK = 1 << 20
+PROGRAM, PROGRAM_STACK = f"{TOP}/crates/pocket/out/pocket", 1 << 20
 BEGIN = "/* ==== The generated part begins here: made from the proved library's module by wasm2c and library/one_file. ==== */"
 END = "/* ==== The generated part ends here. ==== */"
 # Warnings that the statements of a stack machine give, and no other text.
@@ -139,33 +140,13 @@ def calls(kept, kit):
     return f"{begin}{before}\n{quiet(generated(code, states))}\n{after}\n{text_of('state.c')}\n{checked()}"
 
 
-def keys_of_verbs():
-    """For each verb its keys in order, each with the numbers that it takes, or nothing (crates/pocket_cmd/src/verbs.rt)."""
-    text = text_of("crates/pocket_cmd/src/verbs.rt", TOP).replace("u32::MAX", str(2**32 - 1))
-    for name, number in re.findall(r"^pub const (\w+): u32 = ([\d_]+);$", text_of("crates/bit_vectors/src/bits.rt", TOP), re.M):
-        text = re.sub(rf"\b{name}\b", number, text)
-    rows = dict(re.findall(r"Verb::(\w+) => &\[(.*?)\],", text, re.S))
-    bounds = lambda kind: tuple(map(int, re.findall(r"\w+", kind)[1:])) if kind.startswith("Number") else ()
-    return {verb.lower(): [(key, bounds(kind)) for key, kind in re.findall(r'(?:Needed|Optional)\("(\w+)", (.*)\),', text)] for verb, text in rows.items()}
-
-
-def told_keys(keys, lines):
-    """What the help of a verb says of its keys: the words of the whole help, and the numbers that this verb takes."""
-    meanings = {name: meaning for names, meaning in re.findall(r"^    (\w+(?:, \w+)*)  +(.*)$", "\n".join(lines), re.M) for name in names.split(", ")}
-    return [f"    {key:<7}  " + (f"{meanings[key].split(', ')[0]}, {numbers[0]} to {numbers[1]}" if numbers else meanings[key]) for key, numbers in keys]
-
-
 def helps():
-    """What the program's help prints, as arrays of lines: all of it, and that of each verb (crates/pocket/src/verb_help.rt)."""
-    source = {}
-    for name in ("main", "verb_help"):
-        source.update(re.findall(r'^const ([A-Z]+): &str = "\\\n(.*?)";$', text_of(f"crates/pocket/src/{name}.rt", TOP), re.M | re.S))
-    lines, keys = source["HELP"].split("\n"), keys_of_verbs()
-    texts = {"": lines}
-    for number, line in enumerate(lines):
-        verb = line.removeprefix("pocket ").split(" ")[0]
-        if line.startswith("pocket ") and verb.upper() in source:
-            texts[verb] = [line, lines[number + 1], "Keys:", *told_keys(keys[verb], lines), *source[verb.upper()].split("\n")]
+    """What the program's help prints, as arrays of lines: all of it, and that of each verb."""
+    if not os.path.exists(PROGRAM):
+        sys.exit(f"library/one_file/make.py: {PROGRAM}, which tells its helps, is not there")
+    printed = lambda *words: subprocess.run([PROGRAM, *words, "--help"], check=True, capture_output=True, encoding="utf-8").stdout.splitlines()
+    texts = {"": printed()}
+    texts.update((verb, printed(verb)) for verb in re.findall(r"^pocket (\w+)", "\n".join(texts[""]), re.M))
     told = lambda it: '"' + it.replace("\\", "\\\\").replace('"', '\\"') + '"'
     array = lambda verb, text: [f"static const char *const help_of_{verb or 'all'}[] = {{", *(f"    {told(it)}," for it in text), "    NULL", "};", ""]
     made = "".join("\n".join(array(verb, text)) for verb, text in texts.items())
