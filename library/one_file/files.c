@@ -80,7 +80,7 @@ static bool write_whole(int to, const u8 *bytes, size_t length) {
 }
 
 /* An output that was opened: what it is written to, and the part beside its name that takes the name, if it has one. While an earlier
-   part stands that is still to be replaced, nothing is open. `of` is what the part or standard output is; of a pipe or a device it is zeros. */
+   part stands that is still to be replaced, nothing is open. `of` is that of the part or of standard output, and else zeros. */
 struct sink {
     int to;
     bool has_mode;

@@ -144,7 +144,7 @@ def helps():
     """What the program's help prints, as arrays of lines: all of it, and that of each verb."""
     if not os.path.exists(PROGRAM):
         sys.exit(f"library/one_file/make.py: {PROGRAM}, which tells its helps, is not there")
-    printed = lambda *words: subprocess.run([PROGRAM, *words, "--help"], check=True, capture_output=True, encoding="utf-8").stdout.splitlines()
+    printed = lambda *words: subprocess.run([PROGRAM, *words, "--help"], check=True, capture_output=True, text=True).stdout.splitlines()
     texts = {"": printed()}
     texts.update((verb, printed(verb)) for verb in re.findall(r"^pocket (\w+)", "\n".join(texts[""]), re.M))
     told = lambda it: '"' + it.replace("\\", "\\\\").replace('"', '\\"') + '"'

@@ -14,8 +14,8 @@ export function table_of(label, names, rows) {
 
 const ROWS_AT_ONCE = 40;
 
-// A table of many rows: the first of them, a button for the next ones, and what `rest` says of those that are no items. `make` makes the row of
-// an item; `last` are rows that always stand at the end.
+// A table of many rows: the first of them, a button for the next ones, and what `rest` says of those that are no items. `make` makes the row
+// of an item; `last` are rows that always stand at the end.
 function long_table(label, names, items, make, rest, last = []) {
   const table = table_of(label, names, []), more = button('More rows', () => add(), { 'aria-label': `More of ${label.toLowerCase()}` });
   let count = 0;
@@ -26,7 +26,8 @@ function long_table(label, names, items, make, rest, last = []) {
   };
   add();
   table.append(element('tbody', {}, ...last));
-  return [element('div', { class: 'report', role: 'group', tabindex: '0', 'aria-label': label }, table), more, ...(rest ? [element('p', { class: 'hint' }, rest)] : [])];
+  const box = element('div', { class: 'report', role: 'group', tabindex: '0', 'aria-label': label }, table);
+  return [box, more, ...(rest ? [element('p', { class: 'hint' }, rest)] : [])];
 }
 
 // A report: how many packets each cause has, its rows joined where they are neighbours, and its last rows. `told` is what the worker tells of it;
@@ -64,7 +65,7 @@ export function stretch_table(view, fields, go) {
   if (found.length === 0) return [];
   const rest = more > 0 ? `And ${grouped(more)} more, in the values that can be saved.` : '';
   return [element('h2', {}, `Out of limits in ${counted(found.length + more, 'stretch', 'stretches')}`),
-    ...long_table('The stretches out of limits', ['field', 'from', 'to', 'worst'], found, (stretch) => stretch_row(view, stretch, go), rest)];
+    ...long_table('The stretches out of limits', ['field', 'from', 'to', 'worst'], found, (one) => stretch_row(view, one, go), rest)];
 }
 
 function stretch_row(view, { column, side, first, last, worst }, go) {
