@@ -94,13 +94,12 @@ def make(module, to, kit, exports, for_c=False, left_out=lambda text: text):
             sys.exit(f"library/module.py: {error}: {error.stderr.decode(errors='replace')[-2000:]}")
         os.makedirs(os.path.dirname(os.path.abspath(to)), exist_ok=True)
         shutil.copyfile(at("narrow.wasm"), to)
-    return 0
 
 
 def main():
     kit = retarget.kit_of(len(sys.argv) == 3, __doc__)
-    return make(sys.argv[1], sys.argv[2], kit, EXPORTS)
+    make(sys.argv[1], sys.argv[2], kit, EXPORTS)
 
 
 if __name__ == "__main__":
-    sys.exit(main())
+    main()

@@ -91,7 +91,6 @@ def turn(module, folder, tools):
     subprocess.run([clang, *RISC_V_FLAGS, *STRICT, "-c", "-x", "ir", f"{folder}/turned.ll", "-o", object_file], check=True)
     pathlib.Path(archive).unlink(missing_ok=True)
     subprocess.run([f"{tools}/llvm-ar", "rcsD", archive, object_file], check=True)
-    return 0
 
 
 def rows():
@@ -143,7 +142,7 @@ def wrapped(kit, folder, flags):
 
 def build(folder, kit, words, flags):
     """Has `rattle build` prove and build the crate into a folder, by these words more, with the tools that `rt lib` takes and flags more for
-    clang, and keeps its module. Gives the status, and prints its last line."""
+    clang, and keeps its module. Prints its last line, and ends with its status."""
     archive, tools = f"{folder}/lib{CRATE}.a", wrapped(kit, folder, flags)
     pathlib.Path(archive).unlink(missing_ok=True)
     os.makedirs(f"{TOP}/crates/{CRATE}/out", exist_ok=True)
@@ -154,7 +153,7 @@ def build(folder, kit, words, flags):
         lines = log.read().splitlines()
     shutil.rmtree(tools)  # it has links, which the gate refuses
     print("\n".join(lines[-1:] if ran.returncode == 0 else lines[-20:]))
-    return ran.returncode
+    sys.exit(ran.returncode)
 
 
 def kit_of(is_called, text):
@@ -170,10 +169,12 @@ def main():
     folder = os.path.abspath(sys.argv[2])
     os.makedirs(folder, exist_ok=True)
     if sys.argv[1] == RISC_V:
-        return turn(sys.argv[3], folder, f"{kit}/toolchain/bin")
-    words, flags = (["--backend", "llvm"], []) if sys.argv[1] == NATIVE else (["--target", ARM_TRIPLE], STRICT)
-    return build(folder, kit, words, flags)
+        turn(sys.argv[3], folder, f"{kit}/toolchain/bin")
+    elif sys.argv[1] == ARM:
+        build(folder, kit, ["--target", ARM_TRIPLE], STRICT)
+    else:
+        build(folder, kit, ["--backend", "llvm"], [])
 
 
 if __name__ == "__main__":
-    sys.exit(main())
+    main()

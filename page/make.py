@@ -32,7 +32,7 @@ def script(name):
     """The whole script of a module and all that it imports."""
     if not shutil.which("esbuild"):
         sys.exit("page/make.py: Debian's esbuild, which joins the scripts, is not there")
-    words = ["esbuild", f"{PAGE}/{name}", "--bundle", "--charset=utf8", "--log-level=warning"]
+    words = ["esbuild", f"{PAGE}/{name}", "--bundle", "--charset=utf8", "--loader:.csv=text", "--log-level=warning"]
     return subprocess.run(words, check=True, stdout=subprocess.PIPE, encoding="utf-8").stdout
 
 

@@ -80,7 +80,7 @@ static bool write_whole(int to, const u8 *bytes, size_t length) {
 }
 
 /* An output that was opened: what it is written to, and the part beside its name that takes the name, if it has one. While an earlier
-   part stands that is still to be replaced, nothing is open. */
+   part stands that is still to be replaced, nothing is open. `of` is that of the part or of standard output, and else zeros. */
 struct sink {
     int to;
     bool has_mode;
@@ -97,15 +97,10 @@ static bool concerns(const struct sink *other, const struct stat *of) {
     return are_one(&other->of, of) || (stat(other->target, &standing) == 0 && are_one(&standing, of));
 }
 
-/* Whether a file is what the other output is written to: its part, or standard output. */
-static bool is_taken(const struct sink *other, const struct stat *of) {
-    return other != NULL && (other->part != NULL || other->to == 1) && are_one(&other->of, of);
-}
-
 /* Whether a file under the name of a part is an earlier part, which may be replaced. */
 static bool is_earlier(const struct stat *standing, const struct sink *other) {
     struct stat standard;
-    if (!S_ISREG(standing->st_mode) || was_read(standing) || is_taken(other, standing) || concerns(other, standing))
+    if (!S_ISREG(standing->st_mode) || was_read(standing) || concerns(other, standing))
         return false;
     return fstat(1, &standard) != 0 || !are_one(&standard, standing);
 }
@@ -162,7 +157,7 @@ static bool opens(const char *name, const struct sink *other, struct sink *sink)
     if (!S_ISREG(standing.st_mode))
         return true;
     close(sink->to);
-    return !was_read(&standing) && !is_taken(other, &standing) && opens_part(name, &standing, other, sink);
+    return !was_read(&standing) && (other == NULL || !are_one(&other->of, &standing)) && opens_part(name, &standing, other, sink);
 }
 
 static bool takes_name(const struct sink *sink) {

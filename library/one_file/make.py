@@ -2,7 +2,8 @@
 """Makes the C files that any compiler takes: library/one_file/make.py MODULE FOLDER writes FOLDER/pocket.c, the calls of a sender and a
 receiver, FOLDER/pocket.h, and FOLDER/pocket-program.c, the program.
 
-MODULE is the module that library/retarget.py kept as the library was proved and built for x86-64 (crates/pocket_c/out/module.bc).
+MODULE is the module that library/retarget.py kept as the library was proved and built for x86-64 (crates/pocket_c/out/module.bc). The
+program's helps are those that the proved one, crates/pocket/out/pocket, prints.
 library/module.py turns it to WebAssembly, for the calls without what left_out.py leaves out, Debian's wasm2c (the package wabt) turns that to C, and translate.py and joined.py that to the generated part,
 which is joined with what is written by hand: machine.c, calls.c, state.c, null_checks.c and the library's checked.c for the calls; machine.c, allocator.c, files.c and program.c for the program.
 So the files are compiled another way: compared (tests/test_one_file.py), not proved. Two runs give the same bytes.
@@ -29,7 +30,7 @@ SENDER = ["pocket_sender_open", "pocket_sender_reset", "pocket_send", "pocket_se
 RECEIVER = ["pocket_receiver_open", "pocket_receiver_reset", "pocket_receive", "pocket_counts"]
 STATES = ["pocket_save", "pocket_load"]
 DESK = ["pocket_desk_open", "pocket_put", "pocket_word", "pocket_run", "pocket_get"]
-PROGRAM_STACK = 1 << 20
+PROGRAM, PROGRAM_STACK = f"{TOP}/crates/pocket/out/pocket", 1 << 20
 BEGIN = "/* ==== The generated part begins here: made from the proved library's module by wasm2c and library/one_file. ==== */"
 END = "/* ==== The generated part ends here. ==== */"
 # Warnings that the statements of a stack machine give, and no other text.
@@ -80,12 +81,26 @@ def module_of(kept, exports, kit, **how):
         return text_of(made)
 
 
-def constants(code):
-    """The constants of a module, as an array."""
-    if not code.data:
-        return ""
-    lines = [", ".join(str(it) for it in code.data[at:at + 24]) for at in range(0, len(code.data), 24)]
-    return "static const uint8_t constants[] = {\n" + ",\n".join(lines) + "\n};\n"
+def machine():
+    """The text of machine.c with all accesses, by the names that wasm2c gives them: each of an address, and of a place in the memory."""
+    made = ""
+    for wide, bits in ((wide, bits) for wide in (32, 64) for bits in (8, 16, 32, 64) if bits <= wide):
+        size = "" if bits == wide else bits
+        for sign, cast in (("", ""),) if bits == wide else (("_u", ""), ("_s", f"(s{wide})(s{bits})")):
+            made += f"#define i{wide}_load{size}{sign}(to, address, by) LOAD({bits}, (u{wide}){cast}, to, address, by)\n"
+            made += f"#define i{wide}_load{size}{sign}_at(to, at, by) to = (u{wide}){cast}get{bits}((at) + (by))\n"
+        made += f"#define i{wide}_store{size}(value, address, by) STORE({bits}, value, address, by)\n"
+        made += f"#define i{wide}_store{size}_at(value, at, by) put{bits}((at) + (by), (u{bits})(value))\n"
+    return text_of("machine.c").replace("/* @accesses@ */\n", made)
+
+
+def front(head, code, **more):
+    """The front of a file: its head, the numbers of a module and more of them, the constants of the module as an array, and the machine."""
+    numbers = {"STACK_TOP": f"{code.top}u", "HEAP_BASE": f"{code.heap}u", "CONSTANT_BYTES": len(code.data), **more}
+    named = "".join(f"#define {name} {value}\n" for name, value in numbers.items())
+    lines = ",\n".join(", ".join(str(it) for it in code.data[at:at + 24]) for at in range(0, len(code.data), 24))
+    constants = f"static const uint8_t constants[] = {{\n{lines}\n}};\n" if code.data else ""
+    return f"{text_of(head).replace('@VERSION@', version())}\n{named}\n{constants}{machine()}\n"
 
 
 def joined(code, names, guard=None):
@@ -120,41 +135,18 @@ def calls(kept, kit):
     code, states = translate.module_of(text, "code", joins=True), translate.module_of(text, "state", joins=False)
     deepest = code.deepest(SENDER + RECEIVER + STATES)
     check_stack(deepest)
-    numbers = {"STACK_TOP": f"{code.top}u", "HEAP_BASE": f"{code.heap}u", "CONSTANT_BYTES": len(code.data), "DEEPEST": deepest,
-               "STACK_BYTES": "POCKET_STACK_BYTES"}
     before, after = text_of("calls.c").split("/* @generated@ */\n")
-    named = "".join(f"#define {name} {value}\n" for name, value in numbers.items())
-    head = text_of("head.c").replace("@VERSION@", version())
-    return f"{head}\n{named}\n{constants(code)}{text_of('machine.c')}\n{before}\n{quiet(generated(code, states))}\n{after}\n{text_of('state.c')}\n{checked()}"
-
-
-def keys_of_verbs():
-    """For each verb its keys in order, each with the numbers that it takes, or nothing (crates/pocket_cmd/src/verbs.rt)."""
-    text = text_of("crates/pocket_cmd/src/verbs.rt", TOP).replace("u32::MAX", str(2**32 - 1))
-    for name, number in re.findall(r"^pub const (\w+): u32 = ([\d_]+);$", text_of("crates/bit_vectors/src/bits.rt", TOP), re.M):
-        text = re.sub(rf"\b{name}\b", number, text)
-    rows = dict(re.findall(r"Verb::(\w+) => &\[(.*?)\],", text, re.S))
-    bounds = lambda kind: tuple(map(int, re.findall(r"\w+", kind)[1:])) if kind.startswith("Number") else ()
-    return {verb.lower(): [(key, bounds(kind)) for key, kind in re.findall(r'(?:Needed|Optional)\("(\w+)", (.*)\),', text)] for verb, text in rows.items()}
-
-
-def told_keys(keys, lines):
-    """What the help of a verb says of its keys: the words of the whole help, and the numbers that this verb takes."""
-    meanings = {name: meaning for names, meaning in re.findall(r"^    (\w+(?:, \w+)*)  +(.*)$", "\n".join(lines), re.M) for name in names.split(", ")}
-    return [f"    {key:<7}  " + (f"{meanings[key].split(', ')[0]}, {numbers[0]} to {numbers[1]}" if numbers else meanings[key]) for key, numbers in keys]
+    begin = front("head.c", code, DEEPEST=deepest, STACK_BYTES="POCKET_STACK_BYTES")
+    return f"{begin}{before}\n{quiet(generated(code, states))}\n{after}\n{text_of('state.c')}\n{checked()}"
 
 
 def helps():
-    """What the program's help prints, as arrays of lines: all of it, and that of each verb (crates/pocket/src/verb_help.rt)."""
-    source = {}
-    for name in ("main", "verb_help"):
-        source.update(re.findall(r'^const ([A-Z]+): &str = "\\\n(.*?)";$', text_of(f"crates/pocket/src/{name}.rt", TOP), re.M | re.S))
-    lines, keys = source["HELP"].split("\n"), keys_of_verbs()
-    texts = {"": lines}
-    for number, line in enumerate(lines):
-        verb = line.removeprefix("pocket ").split(" ")[0]
-        if line.startswith("pocket ") and verb.upper() in source:
-            texts[verb] = [line, lines[number + 1], "Keys:", *told_keys(keys[verb], lines), *source[verb.upper()].split("\n")]
+    """What the program's help prints, as arrays of lines: all of it, and that of each verb."""
+    if not os.path.exists(PROGRAM):
+        sys.exit(f"library/one_file/make.py: {PROGRAM}, which tells its helps, is not there")
+    printed = lambda *words: subprocess.run([PROGRAM, *words, "--help"], check=True, capture_output=True, text=True).stdout.splitlines()
+    texts = {"": printed()}
+    texts.update((verb, printed(verb)) for verb in re.findall(r"^pocket (\w+)", "\n".join(texts[""]), re.M))
     told = lambda it: '"' + it.replace("\\", "\\\\").replace('"', '\\"') + '"'
     array = lambda verb, text: [f"static const char *const help_of_{verb or 'all'}[] = {{", *(f"    {told(it)}," for it in text), "    NULL", "};", ""]
     made = "".join("\n".join(array(verb, text)) for verb, text in texts.items())
@@ -165,13 +157,9 @@ def helps():
 def program(kept, kit):
     """The text of pocket-program.c."""
     code = translate.module_of(module_of(kept, DESK, kit), "code", joins=True)
-    numbers = {"STACK_TOP": f"{code.top}u", "HEAP_BASE": f"{code.heap}u", "CONSTANT_BYTES": len(code.data), "STACK_BYTES": f"{PROGRAM_STACK}u",
-               "VERSION": f'"{version()}"'}
-    named = "".join(f"#define {name} {value}\n" for name, value in numbers.items())
+    begin = front("program_head.c", code, STACK_BYTES=f"{PROGRAM_STACK}u", VERSION=f'"{version()}"')
     text = joined(code, code.reached(DESK))
-    head = text_of("program_head.c").replace("@VERSION@", version())
-    before = [head, named, constants(code) + text_of("machine.c"), text_of("allocator.c")]
-    return "\n".join([*before, quiet(text), helps(), text_of("files.c"), text_of("program.c")])
+    return begin + "\n".join([text_of("allocator.c"), quiet(text), helps(), text_of("files.c"), text_of("program.c")])
 
 
 def main():
@@ -185,8 +173,7 @@ def main():
     for name, text in made.items():
         pathlib.Path(folder, name).write_text(text, "utf-8")
     shutil.copyfile(f"{TOP}/library/pocket.h", os.path.join(folder, "pocket.h"))
-    return 0
 
 
 if __name__ == "__main__":
-    sys.exit(main())
+    main()

@@ -9,33 +9,24 @@ size_t pocket_state_bytes(uint32_t bits, uint32_t kind) {
 }
 
 uint32_t pocket_save(pocket_handle *handle, uint8_t *state, size_t room, size_t *length) {
-    u32 status = begun_of_any(handle);
     const u32 state_room = room > MOST_STATE ? MOST_STATE : (u32)room;
     u8 *m;
+    u32 status = begun(handle, EITHER, &m);
     if (status != POCKET_DONE)
         return status;
-    m = block_of(handle);
     set_out(m, state, state_room);
     status = ended(m, state_pocket_save(m, head_of(m, LAST_AT), HANDLE, OUTSIDE, state_room, TOLD));
     set_out(m, NULL, 0);
-    if (status != POCKET_DONE)
-        return status;
-    if (get64(place(TOLD)) > state_room) {
-        set_broken(m);
-        return POCKET_BROKEN;
-    }
-    *length = (size_t)get64(place(TOLD));
-    return POCKET_DONE;
+    return status == POCKET_DONE ? gives_length(m, state_room, length) : status;
 }
 
 /* Of more bytes than any state has one more than that is read: these are none. They are read only. */
 uint32_t pocket_load(pocket_handle *handle, const uint8_t *state, size_t length) {
     const u32 bytes = length > MOST_STATE ? MOST_STATE + 1u : (u32)length;
-    u32 status = begun_of_any(handle);
     u8 *m;
+    u32 status = begun(handle, EITHER, &m);
     if (status != POCKET_DONE)
         return status;
-    m = block_of(handle);
     set_out(m, (u8 *)state, bytes);
     status = ended(m, state_pocket_load(m, head_of(m, LAST_AT), HANDLE, OUTSIDE, bytes));
     set_out(m, NULL, 0);

@@ -5,7 +5,7 @@ import { Curve } from './curve.js';
 import { page_unit } from './paint.js';
 import { Later, element, fill, part, refuse_value, save, take_choice, take_drops, tell } from './parts.js';
 import { Rows } from './rows.js';
-import { read_units, unit_of, value_words } from './scale.js';
+import { NO_UNIT, read_units, value_words } from './scale.js';
 import { Span } from './span.js';
 import { zoom_buttons } from './steer.js';
 import { LOW_STRIP, Strip, fill_legend } from './strip.js';
@@ -125,7 +125,7 @@ export class FieldsView extends View {
   take_units() {
     const { units, wrong } = read_units(this.unit_rows.text);
     this.units = units;
-    this.unit_rows.tell(wrong ? `Row ${wrong} is not a field with its unit: name,unit,scale, or name,unit,scale,offset; scale and offset are numbers.` : '');
+    refuse_value(part('units'), wrong ? `Row ${wrong} is not a field with its unit: name,unit,scale, or name,unit,scale,offset; scale and offset are numbers.` : '');
     this.change_axis();
   }
 
@@ -137,7 +137,7 @@ export class FieldsView extends View {
   }
 
   unit_of(field) {
-    return unit_of(this.units, field.name);
+    return this.units.get(field.name) ?? NO_UNIT;
   }
 
   sum() {

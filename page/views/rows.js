@@ -51,7 +51,7 @@ export class Rows {
       fault = `The file ${file.name} can't be read: ${message}`;
     }
     if (turn !== this.turn) return;
-    if (fault) this.tell(fault);
+    if (fault) refuse_value(this.area, fault);
     else if (before === this.text) Object.assign(this, { text }).typed();
   }
 
@@ -110,13 +110,9 @@ export class Rows {
     this.wrong = found && text ? records_of(text)[Number(found[1]) - 1] || null : null;
     const why = this.wrong ? WHY_ROW[this.kind](this.wrong.text.split(',')) : '';
     const line = this.wrong ? `Line ${this.wrong.first + 1}, ${JSON.stringify(this.wrong.text.slice(0, 60))}, is not ${KINDS[this.kind].row}: ${why}. ` : '';
-    this.tell(...(told ? [line, element('span', { class: 'program' }, `The program says: ${told}.`)] : []));
+    refuse_value(this.area, ...(told ? [line, element('span', { class: 'program' }, `The program says: ${told}.`)] : []));
     if (this.wrong && document.activeElement !== this.area) this.show_line(this.wrong.first);
     this.number_lines();
-  }
-
-  tell(...inside) {
-    refuse_value(this.area, ...inside);
   }
 
   show_line(line) {

@@ -2,7 +2,7 @@
 
 import { fields_of } from '../data/records.js';
 
-const NONE = { unit: '', scale: 1, offset: 0, is_own: false };
+export const NO_UNIT = { unit: '', scale: 1, offset: 0, is_own: false };
 
 // The units of a text with rows name,unit,scale or name,unit,scale,offset; or the number of the first row that is none.
 export function read_units(text) {
@@ -15,8 +15,6 @@ export function read_units(text) {
   }
   return { units, wrong: 0 };
 }
-
-export const unit_of = (units, name) => units.get(name) ?? NONE;
 
 // A number with at most six digits that count.
 export const short_number = (number) => String(Number(number.toPrecision(6)));

@@ -14,9 +14,9 @@ export function table_of(label, names, rows) {
 
 const ROWS_AT_ONCE = 40;
 
-// A table of many rows: the first of them, and a button for the next ones. `make` makes the row of an item; `last` are rows that always stand
-// at the end.
-export function long_table(label, names, items, make, last = []) {
+// A table of many rows: the first of them, a button for the next ones, and what `rest` says of those that are no items. `make` makes the row
+// of an item; `last` are rows that always stand at the end.
+function long_table(label, names, items, make, rest, last = []) {
   const table = table_of(label, names, []), more = button('More rows', () => add(), { 'aria-label': `More of ${label.toLowerCase()}` });
   let count = 0;
   const add = () => {
@@ -26,16 +26,17 @@ export function long_table(label, names, items, make, last = []) {
   };
   add();
   table.append(element('tbody', {}, ...last));
-  return [element('div', { class: 'report', role: 'group', tabindex: '0', 'aria-label': label }, table), more];
+  const box = element('div', { class: 'report', role: 'group', tabindex: '0', 'aria-label': label }, table);
+  return [box, more, ...(rest ? [element('p', { class: 'hint' }, rest)] : [])];
 }
 
 // A report: how many packets each cause has, its rows joined where they are neighbours, and its last rows. `told` is what the worker tells of it;
 // the first number of a row goes to that packet.
 export function report_table(told, go) {
   const more = told.stretches - told.rows.length, last = end_rows(told);
-  const rest = more > 0 ? [element('p', { class: 'hint' }, `${counted(more, 'row', 'rows')} more after these, in the report that can be saved.`)] : [];
+  const rest = more > 0 ? `${counted(more, 'row', 'rows')} more after these, in the report that can be saved.` : '';
   return element('div', {}, element('p', {}, cause_words(told.counts)),
-    ...long_table('The rows of the report', ['first', 'last', 'cause', 'value'], told.rows, (row) => report_row(row, go), last), ...rest);
+    ...long_table('The rows of the report', ['first', 'last', 'cause', 'value'], told.rows, (row) => report_row(row, go), rest, last));
 }
 
 function cause_words(counts) {
@@ -62,9 +63,9 @@ export function stretch_table(view, fields, go) {
   const { table, shown: { stretches } } = view, drawn = fields.map((field) => stretches[table.fields.indexOf(field)]);
   const found = drawn.flatMap((one) => one.found).sort((one, other) => one.first - other.first), more = drawn.reduce((sum, { count }) => sum + count, 0) - found.length;
   if (found.length === 0) return [];
-  const rest = more > 0 ? [element('p', { class: 'hint' }, `And ${grouped(more)} more, in the values that can be saved.`)] : [];
+  const rest = more > 0 ? `And ${grouped(more)} more, in the values that can be saved.` : '';
   return [element('h2', {}, `Out of limits in ${counted(found.length + more, 'stretch', 'stretches')}`),
-    ...long_table('The stretches out of limits', ['field', 'from', 'to', 'worst'], found, (stretch) => stretch_row(view, stretch, go)), ...rest];
+    ...long_table('The stretches out of limits', ['field', 'from', 'to', 'worst'], found, (one) => stretch_row(view, one, go), rest)];
 }
 
 function stretch_row(view, { column, side, first, last, worst }, go) {

@@ -1,7 +1,7 @@
 // The time axis of a recording, on the page alone: a start and a step, or a field that has seconds.
 
 import { element, fill, part } from './parts.js';
-import { time_words, unit_of } from './scale.js';
+import { time_words } from './scale.js';
 
 export class TimeAxis {
   fields = [];
@@ -38,7 +38,7 @@ export class TimeAxis {
     const field = this.fields.find((one) => one.name === part('time-field').value);
     if (kind === 'step' && Number.isFinite(step)) return (number) => time_words(number * step, start);
     if (kind !== 'field' || !field) return null;
-    const { scale, offset } = unit_of(view.units, field.name);
+    const { scale, offset } = view.unit_of(field);
     return (number) => {
       const t = view.places.of(number);
       return t < 0 ? '–' : time_words(field.values[t] * scale + offset, start);

@@ -33,7 +33,7 @@ from collections import defaultdict, deque
 from dataclasses import dataclass, field
 from typing import BinaryIO, Callable, Deque, Dict, Iterator, List, NamedTuple, Optional, Tuple
 
-from .packets import IDLE, PERIOD
+from .packets import HEADER, IDLE, PERIOD
 from .tool import LOOK, Tell, ToolError, given, opened, outputs, read, whole_number
 
 HALF = PERIOD // 2
@@ -59,16 +59,15 @@ def packets_of(name: str, source: BinaryIO, at: int, end: int) -> Iterator[Tuple
     source.seek(at)
     while at < end:
         header = read(source, 6)
-        size = 7 + (header[4] << 8 | header[5]) if len(header) == 6 else 7
-        whole = header + read(source, size - 6)
-        if len(whole) < size or at + size > end:
+        first, second, last = HEADER.unpack(header.ljust(6))
+        whole = header + read(source, last + 1)
+        if len(whole) < 7 + last or at + len(whole) > end:
             raise ToolError(f"{name}: the packet at byte {at} is cut")
-        if header[0] >> 5:
+        if first >> 13:
             raise ToolError(f"{name}: at byte {at} begins no Space Packet")
-        apid = (header[0] & 7) << 8 | header[1]
-        if apid != IDLE:
-            yield apid, (header[2] & 0x3F) << 8 | header[3], at, whole
-        at += size
+        if first & 0x7FF != IDLE:
+            yield first & 0x7FF, second & 0x3FFF, at, whole
+        at += len(whole)
 
 
 @dataclass
@@ -200,13 +199,9 @@ class Source:
             self.ahead[found.apid].append(found.number << PLACE | found.place)
         return ahead[0] >> PLACE if ahead else None
 
-    def is_at(self, apid: int, number: int) -> bool:
-        """Whether a packet is the next one of the record."""
-        return self.head is not None and self.head.number == number and self.head.apid == apid
-
     def packet(self, apid: int, number: int) -> Packet:
         """That packet, which may stand behind others."""
-        if self.head is not None and self.is_at(apid, number):
+        if self.head is not None and self.head[:2] == (apid, number):
             return self.head
         with opened(self.record.path) as source:
             at = self.ahead[apid][0] & (1 << PLACE) - 1
@@ -269,7 +264,7 @@ class Joining:
                 following = source.next_number(apid)
                 if following is None or following > number:
                     continue
-                if following < number or not source.is_at(apid, number):
+                if following < number or source.head is None or source.head[:2] != (apid, number):
                     break
                 holders.append(holder)
             else:
