@@ -3,9 +3,6 @@
 mod bytes;
 mod counts;
 mod decoders;
-mod encoders;
-mod masks;
 mod runs;
 mod trips;
 mod vectors;
-mod windows;

@@ -12,7 +12,7 @@ const RUNS: Table = Table {
 };
 
 /// Of packets of eight bits, with the words from the required robustness on, and the schedule.
-static EIGHT_BITS: [&str; 9] = [
+static EIGHT_BITS: [&str; 10] = [
     "|||1|",
     // Two forced packets, a quiet one, and one with a change: 37 bytes.
     "B0 B1 B1 B3|FIRST SECOND THIRD FOURTH||1|",
@@ -21,6 +21,15 @@ static EIGHT_BITS: [&str; 9] = [
         C0 03 00 00 87 00 64 C0 04 00 00 8B 00 64 C0 05 00 01 47 F0||1 plan=s|3,5,2,p",
     // A first mask.
     "A5 A6|00 64 C0 00 00 04 81 61 5C 6A 50 00 64 C0 01 00 01 86 C0||0 mask=0f|",
+    // Equal inputs: the level rises to 15, and from then on each packet is the one before, but if the input changes at a
+    // place of the mask, if mask and whole content are sent, and after that.
+    "A6 A6 A6 A6 A6 A6 A6 A6 A6 A6 A6 A6 A6 A6 A6 A6 A6 A6 A7 A7 A6 A6 A6 A6|00 64 C0 00 00 04 81 61 5C 6A 60 00 64 C0 \
+        01 00 01 86 C0 00 64 C0 02 00 01 8A C0 00 64 C0 03 00 01 8E C0 00 64 C0 04 00 01 92 C0 00 64 C0 05 00 01 96 C0 \
+        00 64 C0 06 00 01 9A C0 00 64 C0 07 00 01 9E C0 00 64 C0 08 00 01 A2 C0 00 64 C0 09 00 01 A6 C0 00 64 C0 0A 00 \
+        01 AA C0 00 64 C0 0B 00 01 AE C0 00 64 C0 0C 00 01 B2 C0 00 64 C0 0D 00 01 B6 C0 00 64 C0 0E 00 01 BA C0 00 64 \
+        C0 0F 00 01 BE C0 00 64 C0 10 00 01 BE C0 00 64 C0 11 00 01 BE C0 00 64 C0 12 00 01 BF C0 00 64 C0 13 00 01 BF \
+        C0 00 64 C0 14 00 01 BE C0 00 64 C0 15 00 04 BD 61 5C 6A 60 00 64 C0 16 00 01 BE C0 00 64 C0 17 00 01 BE C0||0 \
+        mask=0f plan=s|21,21,1,fr",
     // Level 0, which says nothing of directions.
     "00 01 03|00 64 C0 00 00 03 81 B8 C0 00 00 64 C0 01 00 01 42 C0 00 64 C0 02 00 02 C0 83 80||0|",
     // The last packet stands alone.

@@ -1,52 +1,10 @@
 //! The words of counts, and the first faults of others, by worked examples.
 
-ghost use Rattle.bit_vectors.specs.Vectors.{IsPlaces};
-
 use super::bytes::eye;
 use bit_vectors::{BitEye, BitFault, BitPen, NoMemory};
 use count_code::{Count, count_len, match_count, put_count, put_end, take_count};
 use std::alloc::Global;
 use std::test::Fail;
-
-/// Whether the bits are this count, and then the end.
-fn is_count(bits: &[u8], a: u32) -> bool
-    requires valid { IsPlaces a }
-{
-    let mut taken = eye(bits);
-    let mut matched = eye(bits);
-    take_count(&mut taken, 49_152) == Ok(Count::Value(a))
-        && take_count(&mut taken, 49_152) == Ok(Count::End)
-        && match_count(&mut matched, a) == Ok(())
-        && matched.take_number(2) == Ok(0b10)
-}
-
-/// Whether a count has so many bits, in these bytes, and is read from them.
-fn is_word(alloc: Global, a: u32, len: u32, bytes: &[u8]) -> Result<bool, NoMemory> {
-    let a = a.clamp(1, 49_152);
-    let mut pen = BitPen::with_room(alloc, count_len(a) + 2)?;
-    put_count(&mut pen, a);
-    let is_written = pen.len() == len && pen.bytes() == bytes;
-    put_end(&mut pen);
-    Ok(is_written && is_count(pen.bytes(), a))
-}
-
-/// Counts, how many bits each has, and its bytes.
-static WORDS: [(u32, u32, &[u8]); 6] = [
-    (1, 1, &[0x00]),
-    (2, 8, &[0xc0]),
-    (33, 8, &[0xdf]),
-    (34, 9, &[0xf0, 0x00]),
-    (66, 11, &[0xe8, 0x00]),
-    (49_152, 29, &[0xe0, 0x05, 0xff, 0xf0]),
-];
-
-#[test]
-fn words_of_counts(rt: HostRuntime) -> Result<(), Fail> {
-    for &(a, len, bytes) in &WORDS {
-        assert!(rt; is_word(rt.alloc(), a, len, bytes)?, "{a}");
-    }
-    Ok(())
-}
 
 /// A pen with so many zeros, a count and the end.
 fn pen_after(alloc: Global, before: u32, a: u32) -> Result<BitPen, NoMemory> {
@@ -62,12 +20,23 @@ fn pen_after(alloc: Global, before: u32, a: u32) -> Result<BitPen, NoMemory> {
     Ok(pen)
 }
 
-/// Whether the bits are so many zeros, and then a count and the end.
-fn is_taken(bits: &[u8], before: u32, a: u32) -> bool {
+/// What stands behind so many bits.
+fn behind(bits: &[u8], before: u32) -> BitEye<'_> {
     let mut eye = eye(bits);
-    eye.take_word(before.clamp(1, 64)) == Ok(0)
-        && take_count(&mut eye, 49_152) == Ok(Count::Value(a))
-        && take_count(&mut eye, 0) == Ok(Count::End)
+    let _ = eye.take_word(before.clamp(1, 64));
+    eye
+}
+
+/// Whether behind so many bits a count is taken, and then the end.
+fn is_taken(bits: &[u8], before: u32, a: u32) -> bool {
+    let mut eye = behind(bits, before);
+    take_count(&mut eye, 49_152) == Ok(Count::Value(a)) && take_count(&mut eye, 0) == Ok(Count::End)
+}
+
+/// Whether a count is matched there, and then comes the end.
+fn is_matched(bits: &[u8], before: u32, a: u32) -> bool {
+    let mut eye = behind(bits, before);
+    match_count(&mut eye, a.clamp(1, 49_152)) == Ok(()) && eye.take_number(2) == Ok(0b10)
 }
 
 /// Whether they are so many zeros, and then so many bits of this number and the end.
@@ -78,8 +47,9 @@ fn has_word(bits: &[u8], before: u32, len: u32, word: u64) -> bool {
         && take_count(&mut eye, 0) == Ok(Count::End)
 }
 
-/// How many zeros stand before a count, the count, how many bits it has, and their number.
-static ACROSS: [(u32, u32, u32, u64); 7] = [
+/// How many zeros stand before a count, so that the boundary of a word is before, in or after its bits; the count, how many
+/// bits it has, and their number.
+static WORDS: [(u32, u32, u32, u64); 7] = [
     (62, 1, 1, 0),
     (63, 1, 1, 0),
     (60, 2, 8, 0xc0),
@@ -89,13 +59,19 @@ static ACROSS: [(u32, u32, u32, u64); 7] = [
     (50, 49_152, 29, 0x1c00_bffe),
 ];
 
-/// A count and the end after the given number of zeros, so that the boundary of a word is before, in or after them.
+/// A count and the end within a word, and across its boundary.
 #[test]
-fn counts_across_words(rt: HostRuntime) -> Result<(), Fail> {
-    for &(before, a, len, word) in &ACROSS {
-        let pen = pen_after(rt.alloc(), before, a)?;
-        let is_right = is_taken(pen.bytes(), before, a) && has_word(pen.bytes(), before, len, word);
-        assert!(rt; is_right, "{a}");
+fn words_of_counts(rt: HostRuntime) -> Result<(), Fail> {
+    for &(across, a, len, word) in &WORDS {
+        for before in [8, across] {
+            let pen = pen_after(rt.alloc(), before, a)?;
+            let bits = pen.bytes();
+            assert!(rt;
+                is_taken(bits, before, a) && is_matched(bits, before, a),
+                "{a}"
+            );
+            assert!(rt; has_word(bits, before, len, word), "{a}");
+        }
     }
     Ok(())
 }

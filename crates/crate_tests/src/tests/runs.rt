@@ -14,6 +14,11 @@ use std::test::Fail;
 /// Ones at both ends of vectors and around the boundaries of words.
 const ONES: [u32; 7] = [0, 62, 63, 64, 65, 126, 127];
 
+/// Some of them, and the others.
+const SOME: [u32; 3] = [62, 65, 127];
+
+const OTHERS: [u32; 4] = [0, 63, 64, 126];
+
 /// A vector of `f` places with ones at those of the given numbers that are places.
 fn vector(alloc: Global, f: u32, ones: &[u32]) -> Result<Bits, NoMemory> {
     if f == 0 || f > 49152 {
@@ -152,71 +157,59 @@ fn take_inverted(bits: &[u8], x: &Bits, mask: &mut Bits) -> Result<(), BitFault>
     take_inverse_up(&mut eye(bits), x, mask)
 }
 
-/// Bits are put and taken, and end early.
-fn extracted_go_both_ways(alloc: Global) -> Result<bool, NoMemory> {
-    let mut a = vector(alloc, 8, &[0])?;
+/// Bits end early, or one is wrong: at least one bit is inverted.
+fn bits_are_refused(alloc: Global) -> Result<bool, NoMemory> {
+    let mut into = vector(alloc, 8, &[0])?;
     let b = vector(alloc, 8, &[0, 3, 7])?;
-    let is_put = extracts(alloc, &a, &b, &[0x20])?;
-    let is_taken = take_extracted(&[0xc0], &mut a, &b) == Ok(()) && has_ones(&a, &[3, 7]);
-    let early = Err(BitFault::EndsEarly { bit: 0 });
-    Ok(is_put && is_taken && take_extracted(&[], &mut a, &b) == early)
+    let early = Err(EndsEarly { bit: 0 });
+    Ok(
+        take_extracted(&[], &mut into, &b) == early
+            && take_inverted(&[], &b, &mut into) == early
+            && take_inverted(&[0x10], &b, &mut into) == Err(Wrong { bit: 2 }),
+    )
 }
 
 #[test]
-fn extracted_bits_both_ways(rt: HostRuntime) -> Result<(), Fail> {
-    assert!(rt; extracted_go_both_ways(rt.alloc())?);
+fn faults_of_bits(rt: HostRuntime) -> Result<(), Fail> {
+    assert!(rt; bits_are_refused(rt.alloc())?);
     Ok(())
 }
 
-/// Inverted bits are put and taken, one is wrong, and they end early.
-fn inverted_go_both_ways(alloc: Global) -> Result<bool, NoMemory> {
-    let mut mask = vector(alloc, 8, &[0])?;
-    let x = vector(alloc, 8, &[0, 3, 7])?;
-    let is_put = inverts(alloc, &mask, &x, &[0x60])?;
-    let is_taken = take_inverted(&[0x60], &x, &mut mask) == Ok(()) && has_ones(&mask, &[3, 7]);
-    let wrong = Err(BitFault::Wrong { bit: 2 });
-    let early = Err(BitFault::EndsEarly { bit: 0 });
-    let are_refused = take_inverted(&[0x10], &x, &mut mask) == wrong
-        && take_inverted(&[], &x, &mut mask) == early;
-    Ok(is_put && is_taken && are_refused)
-}
+/// The places, the ones of a vector at which bits stand, those where a bit is one and those where it is none, and the bits
+/// as they are extracted and as they are inverted.
+type Row = (u32, &'static [u32], &'static [u32], &'static [u32], u8, u8);
 
-#[test]
-fn inverted_bits_both_ways(rt: HostRuntime) -> Result<(), Fail> {
-    assert!(rt; inverted_go_both_ways(rt.alloc())?);
-    Ok(())
-}
-
-/// Whether the bits at the ones of a vector of `f` places go both ways through these bytes.
-fn go_both_ways(alloc: Global, f: u32, down: u8, up: u8) -> Result<bool, NoMemory> {
-    let a = vector(alloc, f, &[62, 65, 127])?;
-    let b = vector(alloc, f, &ONES)?;
+/// Whether the bits go both ways through these bytes.
+fn go_both_ways(alloc: Global, row: &Row) -> Result<bool, NoMemory> {
+    let &(f, ones, some, others, down, up) = row;
+    let a = vector(alloc, f, some)?;
+    let b = vector(alloc, f, ones)?;
     let mut into = vector(alloc, f, &[])?;
     let is_down = extracts(alloc, &a, &b, &[down])?
         && take_extracted(&[down], &mut into, &b) == Ok(())
-        && has_ones(&into, &[62, 65, 127]);
+        && has_ones(&into, some);
     let is_up = inverts(alloc, &a, &b, &[up])?
         && take_inverted(&[up], &b, &mut into) == Ok(())
-        && has_ones(&into, &[0, 63, 64, 126]);
+        && has_ones(&into, others);
     Ok(is_down && is_up)
 }
 
-/// The places, the extracted bits, and the inverted ones.
-static ACROSS: [(u32, u8, u8); 6] = [
-    (1, 0x00, 0x80),
-    (63, 0x80, 0x80),
-    (64, 0x40, 0xa0),
-    (65, 0x20, 0xb0),
-    (127, 0x48, 0xb4),
-    (128, 0xa4, 0xb4),
+static BITS: [Row; 7] = [
+    (8, &[0, 3, 7], &[0], &[3, 7], 0x20, 0x60),
+    (1, &ONES, &SOME, &OTHERS, 0x00, 0x80),
+    (63, &ONES, &SOME, &OTHERS, 0x80, 0x80),
+    (64, &ONES, &SOME, &OTHERS, 0x40, 0xa0),
+    (65, &ONES, &SOME, &OTHERS, 0x20, 0xb0),
+    (127, &ONES, &SOME, &OTHERS, 0x48, 0xb4),
+    (128, &ONES, &SOME, &OTHERS, 0xa4, 0xb4),
 ];
 
 /// The bits of a vector at the ones, from the highest place down, and the inverted bits of it as a mask, from the
 /// lowest place up, each in one byte.
 #[test]
-fn bits_across_words(rt: HostRuntime) -> Result<(), Fail> {
-    for &(f, down, up) in &ACROSS {
-        assert!(rt; go_both_ways(rt.alloc(), f, down, up)?, "{f}");
+fn bits_both_ways(rt: HostRuntime) -> Result<(), Fail> {
+    for row in &BITS {
+        assert!(rt; go_both_ways(rt.alloc(), row)?, "{}", row.0);
     }
     Ok(())
 }

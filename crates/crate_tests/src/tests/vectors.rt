@@ -1,7 +1,7 @@
 //! Each call that allocates, with ample memory, and the texts of the faults. Zeros are put one by one before the
 //! numbers that cross words, so that `put` is tried at each place too.
 
-ghost use Rattle.std.specs.Prelude.{◌≡◌, ◌<◌, ◌≤◌, length};
+ghost use Rattle.std.specs.Prelude.{◌≡◌, length};
 
 use bit_vectors::{BitEye, BitFault, BitPen, Bits, NoMemory, SpareBit, byte_len};
 use std::alloc::Global;
@@ -66,68 +66,6 @@ fn next_word_is_right(alloc: Global) -> Result<bool, NoMemory> {
 fn words_of_vectors(rt: HostRuntime) -> Result<(), Fail> {
     assert_eq!(rt; word_of_thirteen(rt.alloc())?, Some(0x1238_0000_0000_0000));
     assert!(rt; next_word_is_right(rt.alloc())?);
-    Ok(())
-}
-
-/// A vector of the given number of places with its last place set, found there and nowhere else.
-fn finds_its_last_place(alloc: Global, places: u32) -> Result<bool, NoMemory>
-    requires some { 1 < places }
-    requires most { places ≤ 49152 }
-{
-    let last = places - 1;
-    let mut vector = Bits::zeros(alloc, places)?;
-    vector.set(last, true);
-    let up = vector.next_one_up(1) == Some(last);
-    let down = vector.next_one_down(places) == Some(last);
-    let word = vector.word(vector.word_count() - 1) == 1 << (63 - last % 64);
-    Ok(up & down & word & (vector.ones() == 1))
-}
-
-/// Whether a vector that is stored is given back by its bytes.
-fn is_given_back(alloc: Global, vector: &Bits, into: &mut Bits) -> Result<bool, NoMemory>
-    requires { length into.old ≡ length vector.now }
-{
-    let mut bytes = vec![in alloc; 0; byte_len(vector.len()) as usize]?;
-    vector.store(&mut bytes);
-    Ok(into.load(&bytes).is_ok() && into.same(vector))
-}
-
-/// Two vectors of the given number of places combined, and one of them stored and loaded again.
-fn puts_together(alloc: Global, places: u32) -> Result<bool, NoMemory>
-    requires some { 1 < places }
-    requires most { places ≤ 49152 }
-{
-    let mut vector = Bits::zeros(alloc, places)?;
-    let mut both = Bits::zeros(alloc, places)?;
-    vector.set(places - 1, true);
-    both.copy_from(&vector);
-    both.set(0, true);
-    vector.xor_in(&both);
-    let first = vector.get(0) & (vector.ones() == 1);
-    vector.or_in(&both);
-    let joined = vector.same(&both);
-    vector.drop_in(&both);
-    let none = vector.is_zero();
-    let loaded = is_given_back(alloc, &both, &mut vector)?;
-    vector.clear();
-    Ok(first & joined & none & loaded & vector.is_zero())
-}
-
-/// The word of a single place that is set.
-fn word_of_one(alloc: Global) -> Result<u64, NoMemory> {
-    let mut vector = Bits::zeros(alloc, 1)?;
-    vector.set(0, true);
-    Ok(vector.word(0))
-}
-
-#[test]
-fn vectors_around_the_edges_of_words(rt: HostRuntime) -> Result<(), Fail> {
-    for places in [63, 64, 65, 127, 128, 49_152] {
-        assert!(rt; 1 < places && places <= 49_152);
-        assert!(rt; finds_its_last_place(rt.alloc(), places)?);
-        assert!(rt; puts_together(rt.alloc(), places)?);
-    }
-    assert_eq!(rt; word_of_one(rt.alloc())?, 1 << 63);
     Ok(())
 }
 
