@@ -1,9 +1,5 @@
 //! What no clause shows: that calls answer with ample memory, worked examples of each crate, texts, and real files.
 
 mod desks;
-mod flights;
-mod grounds;
-mod packets;
-mod sides;
+mod headers;
 mod states;
-mod trials;

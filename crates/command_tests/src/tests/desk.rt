@@ -46,8 +46,8 @@ pub struct Ending<'a> {
     pub report: &'a [u8],
     pub kept_output: &'a [u8],
     pub kept_report: &'a [u8],
-    /// How often reading and writing failed.
-    pub faults: (u64, u64),
+    /// How often reading, writing and taking memory for an output failed.
+    pub faults: (u64, u64, u64),
 }
 
 /// The words, at a desk without an input.
@@ -85,7 +85,7 @@ pub fn done<'a>(output: &'a [u8], report: &'a [u8]) -> Ending<'a> {
         report,
         kept_output: output,
         kept_report: report,
-        faults: (0, 0),
+        faults: (0, 0, 0),
     }
 }
 
@@ -101,12 +101,12 @@ pub fn refused<'a>(refusal: Refusal, output: &'a [u8], report: &'a [u8]) -> Endi
     }
 }
 
-/// How often reading and writing failed, if this is the answer.
-fn faults_of(refusal: Refusal) -> (u64, u64) {
+/// How often reading, writing and taking memory for an output failed, if this is the answer.
+fn faults_of(refusal: Refusal) -> (u64, u64, u64) {
     match refusal {
-        Refusal::ReadFault => (1, 0),
-        Refusal::WriteFault => (0, 1),
-        _ => (0, 0),
+        Refusal::ReadFault => (1, 0, 0),
+        Refusal::WriteFault => (0, 1, 0),
+        _ => (0, 0, 0),
     }
 }
 
@@ -229,6 +229,6 @@ fn ended(status: Status, desk: &MemDesk) -> Ending<'_> {
         report: desk.seen(Outlet::Report),
         kept_output: desk.get("b"),
         kept_report: desk.get("c"),
-        faults: (desk.read_faults(), desk.write_faults()),
+        faults: (desk.read_faults(), desk.write_faults(), desk.short()),
     }
 }

@@ -14,7 +14,7 @@ const STORES: Table = Table {
 };
 
 /// Of packets of eight bits.
-static EIGHT_BITS: [&str; 12] = [
+static EIGHT_BITS: [&str; 13] = [
     "|end 0 0 0\n",
     "FIRST|0 written 1 00 00 b0\nend 1 1 0\n",
     // A mask of ones.
@@ -32,6 +32,11 @@ static EIGHT_BITS: [&str; 12] = [
         0 written 1 00 00 b0\n1-1 lost\n2 gap 0\n3 written 2 00 00 b0\nend 3 2 0\n",
     // With nothing known.
     "00 64 C0 05 00 00 82|0-4 lost\n5 unsynced\nend 1 0 0\n",
+    // Each number is the least above the one before that the count allows, up to 16,383 above it; the same count is a repeat.
+    "00 64 C0 03 00 00 82 00 64 C0 03 00 00 82 00 64 C0 04 00 00 82 SAME_LAST_COUNT COUNT_0 SAME_LAST_COUNT \
+        SAME_LAST_COUNT 00 64 FF FE 00 00 82|\
+        0-2 lost\n3 unsynced\n3 repeat\n4 unsynced\n5-16382 lost\n16383 unsynced\n16384 unsynced\n16385-32766 lost\n\
+        32767 unsynced\n32767 repeat\n32768-49149 lost\n49150 unsynced\nend 8 0 2\n",
     // Whole content whose mask is not known, and then a mask under which that content is.
     "00 64 C0 00 00 03 81 B8 C0 00 00 64 C0 03 00 03 80 E3 01 80 00 64 C0 04 00 02 85 60 44 00 64 C0 05 00 01 8A \
         80|0 written 0 00 00 00\n1-2 lost\n3 written 0 00 - 03\n4 written 1 00 03 02\n5 written 2 00 03 02\nend 4 \

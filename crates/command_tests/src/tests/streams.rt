@@ -36,7 +36,7 @@ const STORES: Table = Table {
     header: "apid,first,last,cause,value\n",
 };
 
-static WHOLE: [&str; 9] = [
+static WHOLE: [&str; 10] = [
     "00 64 C0 00 00 03 85 B8 D6 00 00 65 C0 05 00 00 82 00 64 C0 01 00 00 82 00 65 00 00 00 00 82|\
         00 64 C0 00 00 00 B0 00 64 C0 01 00 00 B0|\
         101,0,4,lost,0\n101,5,5,unsynced,0\n100,end,2,2,0\n101,end,1,0,0\nshape,1\n||100,8\n101,8\n",
@@ -57,6 +57,8 @@ static WHOLE: [&str; 9] = [
     // Vectors of two lengths: each packet is read by the length of its own stream.
     "00 64 C0 00 00 03 81 B9 62 47 00 0A C0 00 00 03 85 B8 D6 00|00 64 C0 00 00 01 12 38 00 0A C0 00 00 00 B0|\
         10,end,1,1,0\n100,end,1,1,0\nshape,0\n||10,8\n100,13\n",
+    // The least and the greatest APID, and the fewest and the most bits.
+    "00 00 C0 00 00 01 81 A8|00 00 C0 00 00 00 80|0,end,1,1,0\n2046,end,0,0,0\nshape,0\n||0,1\r\n2046,49152\n",
     // An APID that begins with another one.
     "00 01 C0 01 00 00 82 00 0A C0 02 00 00 82||\
         1,0,0,lost,0\n1,1,1,unsynced,0\n10,0,1,lost,0\n10,2,2,unsynced,0\n1,end,1,0,0\n10,end,1,0,0\nshape,0\n||\
@@ -79,7 +81,7 @@ static CUT: [&str; 6] = [
 ];
 
 /// Side texts, and the first row of each that is wrong.
-static WRONG: [Wrong; 16] = [
+static WRONG: [Wrong; 17] = [
     ("100,8\n100,16\n", 2),
     ("2047,8", 1),
     ("-1,8", 1),
@@ -89,6 +91,7 @@ static WRONG: [Wrong; 16] = [
     ("100,49153", 1),
     ("100,4294967297", 1),
     ("100", 1),
+    ("100,8,", 1),
     ("100,8,8", 1),
     ("100, 8", 1),
     ("apid,bits\n100,8", 1),
