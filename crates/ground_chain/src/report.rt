@@ -1,8 +1,7 @@
 //! The rows of the report, each put together before it is written.
 
-ghost use Rattle.std.specs.Prelude.{◌≡◌, ◌+◌, ◌≤◌, ◌++◌, [], length};
+ghost use Rattle.std.specs.Prelude.{◌≡◌, ◌+◌, ◌≤◌, ◌++◌, [], length, Some};
 ghost use Rattle.ground_chain.specs.Report.{end_row, lost_row, own_row, number_row, verdict_rows};
-ghost use Rattle.std.specs.Prelude.{Some};
 
 use crate::restored::Restored;
 use crate::verdict::{Kind, Lost, Verdict};

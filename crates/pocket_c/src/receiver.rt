@@ -3,13 +3,12 @@
 ghost use Rattle.std.specs.Prelude.{◌≡◌, ℕ, ◌<◌, ◌↔◌, ◌++◌, ◌∷◌, [], List, Err, None, Some, length, drop};
 ghost use Rattle.ground_chain.specs.Reception.{next_judged};
 ghost use Rattle.ground_chain.specs.Reckoning.{HasJudged, Judges, Reckoning, nothing_judged};
-ghost use Rattle.ground_chain.specs.Report.{written_bytes};
+ghost use Rattle.ground_chain.specs.Report.{kind_value, tells_mask_alone, written_bytes};
 ghost use Rattle.ground_chain.specs.Run.{Arrival};
 ghost use Rattle.packet_calls.specs.Refusals.{opening_fault};
 ghost use Rattle.pocket_c.specs.Answers.{opening_status, receiving_status};
 ghost use Rattle.pocket_c.specs.Kinds.{HasOtherThanReceiver};
 ghost use Rattle.pocket_c.specs.Statuses.{IsOneOf, status_number};
-ghost use Rattle.ground_chain.specs.Report.{kind_value, tells_mask_alone};
 ghost use Rattle.pocket_c.specs.Verdicts.{counts_told, finding_of, first_lost, kind_number, lost_number};
 
 use crate::held::{Handle, Held};

@@ -1,8 +1,7 @@
 //! The first mask, which hexadecimal digits denote.
 ghost use Rattle.std.specs.Prelude.{◌≡◌, ◌≤◌, false, length, take, IfOk, IfSome};
 ghost use Rattle.std.specs.Option.{option_map};
-ghost use Rattle.bit_vectors.specs.Vectors.{byte_count, has_spare_bit};
-ghost use Rattle.bit_vectors.specs.Vectors.{IsPlaces};
+ghost use Rattle.bit_vectors.specs.Vectors.{IsPlaces, byte_count, has_spare_bit};
 ghost use Rattle.pocket_cmd.specs.Masks.{first_mask, mask_bytes};
 
 use bit_vectors::{BitEye, Bits, NoMemory, byte_len};

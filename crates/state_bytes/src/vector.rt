@@ -1,7 +1,6 @@
 //! Vectors: one without a 1 takes a byte.
 
-ghost use Rattle.std.specs.Prelude.{◌≡◌, ℕ, ◌+◌, ◌≤◌, Bool, List, length, IfSome, Some};
-ghost use Rattle.std.specs.Prelude.{IsTrue, ◌↔◌, replicate};
+ghost use Rattle.std.specs.Prelude.{◌≡◌, ℕ, ◌+◌, ◌≤◌, Bool, List, length, IfSome, Some, IsTrue, ◌↔◌, replicate};
 ghost use Rattle.bit_vectors.specs.Vectors.{IsPlaces};
 ghost use Rattle.state_bytes.specs.Parts.{BeginsVector, BeginsVectorIf, Puts, vector_part, vector_room};
 
