@@ -18,7 +18,7 @@ const FORECASTS: Table = Table {
     header: "",
 };
 
-static WORKED: [&str; 9] = [
+static WORKED: [&str; 10] = [
     "drop,10,10,1\ndrop,50,51,1\ndrop,190,194,1\ndrop,205,207,1\nrepeat,300,309,1,2\ndrop,530,533,1\n\
         drop,999,999,1\n|first,last,state\n0,9,sure\n10,10,lost\n11,49,sure\n50,51,lost\n52,189,sure\n\
         190,194,lost\n195,199,open\n200,204,sure\n205,207,lost\n208,299,open\n300,529,sure\n530,533,lost\n\
@@ -40,6 +40,11 @@ static WORKED: [&str; 9] = [
     "drop,1,4,1\nrepeat,2,2,2,1|\
         first,last,state\n0,0,sure\n1,1,lost\n2,2,sure\n3,4,lost\n5,5,sure\ngaps,0,3\nend,6,3\n||\
         6 robust=0 plan=s script=a|robust,0,9,1,7\nrobust,0,9,3,0",
+    // The same packets by many rows.
+    "repeat,0,9,1,8\ndrop,0,5,1\nrepeat,0,0,1,1\ndrop,1,1,1\nrepeat,2,2,1,2\ndrop,3,3,1\ndrop,4,4,1\nrepeat,5,5,1,3\n\
+        drop,7,7,1|first,last,state\n0,0,sure\n1,1,lost\n2,2,sure\n3,4,lost\n5,5,sure\ngaps,0,3\nend,6,3\n||\
+        6 robust=0 plan=s script=a|robust,0,9,1,7\nrobust,0,0,1,0\nrobust,1,1,1,3\nrobust,2,2,1,0\nrobust,2,2,1,7\n\
+        robust,3,5,1,0\n5,9,4,f\n1,5,4,r\n3,4,1,p\nrobust,7,7,1,1\nrobust,8,8,1,1\nrobust,9,9,2,1",
     // No row is about these packets.
     "drop,2,4294967295,4294967295|first,last,state\n0,1,sure\ngaps,0,1\nend,2,2\n||2 robust=7 plan=s script=a|\
         8,4294967295,1,p\nrobust,9,9,1,0",
