@@ -1,8 +1,11 @@
--- Exact readers, and how they are combined.
-use Rattle.std.proofs.Common.{◌≡◌, ℕ, ◌≤◌, Bool, true, false, cond, List, [], ◌∷◌, ◌++◌, length, take, drop, ◌⊎◌, refl, sym, ap, ◌∙◌, subst, arith, append_assoc, inl, inr}
-use Rattle.std.proofs.lemmas.List.{length-append, take-append-drop}
+-- Exact readers: how they are combined, that they read one word and no other, and what an eye then reads.
+use Rattle.std.specs.Prelude.{IsOk, IfErr, not, OnOk}
+use Rattle.std.proofs.Common.{◌≡◌, ℕ, ◌≤◌, Bool, true, false, cond, List, [], ◌∷◌, ◌++◌, length, take, drop, ◌⊎◌, refl, sym, ap, ◌∙◌, subst, arith, append_assoc, inl, inr, ◌+◌, ◌-◌, ◌<◌, Result, Ok, Err}
 use Rattle.std.proofs.lemmas.Bool.{cases_lt, true≢false}
-use Rattle.bit_vectors.specs.Reading.{Parsed, Read, WrongBit, TooShort, ◌>>=◌, bit_where, CanBegin, IsWrongBefore, IsExact}
+use Rattle.std.proofs.lemmas.List.{length-append, take-append-drop, length-drop, take_at}
+use Rattle.bit_vectors.specs.Reading.{Parsed, Read, WrongBit, TooShort, ◌>>=◌, bit_where, CanBegin, IsWrongBefore, IsExact, EyeState, bits_left, MovesOn, Gives, IsFirstWrong, IsEarlyEnd, IsFirstFault, allowed, parse_word}
+use Rattle.bit_vectors.specs.declared.fault.BitFault.{BitFault}
+use Rattle.bit_vectors.specs.declared.fault.BitFault.TheVariants.{Wrong, EndsEarly}
 
 -- ---- two ways to cut a list
 
@@ -201,3 +204,159 @@ module _ {A B : Type 0} (W : A → List Bool → Type 0) (U : A → B → List B
 
   pub IsExact-then : IsExact (IsWordThen W U) (λ bits. f bits >>= g)
   IsExact-then = record { reads = both_read; read_is = both_read_is; wrong_is = both_wrong; short_is = both_short }
+
+-- ---- what follows when an exact reader describes an eye's reading
+
+pub MovesOn-refl : (eye : EyeState) → MovesOn eye eye
+MovesOn-refl eye = record { bits = refl; forward = omega arith }
+
+pub MovesOn-then : (a b c : EyeState) → MovesOn a b → MovesOn b c → MovesOn a c
+MovesOn-then a b c p q = record { bits = q.bits ∙ p.bits; forward = omega (arith, p.forward, q.forward) }
+
+-- a call that passes on what another call answered
+pub Gives-then_err : {A B C D : Type 0} (view : A → B) (see : C → D) (fault : BitFault) (new : EyeState) (reading : Parsed B) (next : B → List Bool → Parsed D) → Gives view (Err fault) new reading → Gives see (Err fault) new (reading >>= next)
+Gives-then_err view see (Wrong bit) new reading next h = (rw h.0 refl, h.1, h.2)
+Gives-then_err view see (EndsEarly bit) new reading next h = (rw h.0 refl, h.1, h.2)
+
+-- ---- described by an exact reader
+
+pub only_read : {B : Type 0} (v w : B) (rest : List Bool) (new : EyeState) (result : Result (Unit {0}) BitFault) (reading : Parsed B) → Gives (λ (u : Unit {0}). v) result new reading → reading ≡ Read w rest → IsOk result × (v ≡ w)
+only_read v w rest new (Ok u) reading given read = (refl, cc)
+only_read v w rest new (Err (Wrong bit)) reading given read = let wrong = given.0 in absurd cc
+only_read v w rest new (Err (EndsEarly bit)) reading given read = let short = given.0 in absurd cc
+
+only_value : {B : Type 0} (result : Result B BitFault) (new : EyeState) (reading : Parsed B) (value : B) (rest : List Bool) → Gives (λ (x : B). x) result new reading → reading ≡ Read value rest → result ≡ Ok value
+only_value (Ok x) new reading value rest given is = cc
+only_value (Err (Wrong bit)) new reading value rest given is = let wrong = given.0 in absurd cc
+only_value (Err (EndsEarly bit)) new reading value rest given is = let short = given.0 in absurd cc
+
+pub only_by : {B : Type 0} (W : B → List Bool → Type 0) (f : List Bool → Parsed B) → IsExact W f → (old new : EyeState) (result : Result B BitFault) → Gives (λ (x : B). x) result new (f (bits_left old))
+    → (value : B) (word rest : List Bool) → W value word → bits_left old ≡ word ++ rest → result ≡ Ok value
+only_by W f exact old new result given value word rest w e = only_value result new (f (bits_left old)) value rest given (ap f e ∙ exact.reads value word rest w)
+
+-- ---- faults
+
+first_wrong : {B : Type 0} (W : B → List Bool → Type 0) (f : List Bool → Parsed B) → IsExact W f → (old new : EyeState) (bit : ℕ) → MovesOn old new → f (bits_left old) ≡ WrongBit (bits_left new) → bit < length new.bits → new.place ≡ bit + 1
+    → IsFirstWrong (λ word. (value : B) × W value word) old new bit
+first_wrong W f exact old new bit moves wrong within after =
+    let w = exact.wrong_is (bits_left old) (bits_left new) wrong in
+    let len = ap (λ (bits : List Bool). length bits) w.parts in
+    let count : old.place + length w.front ≡ bit = omega (arith, length-append w.front (w.bit ∷ bits_left new), length-drop old.place old.bits, length-drop new.place new.bits, ap (λ (bits : List Bool). length bits) moves.bits) in
+    let before : take (bit - old.place) (bits_left old) ≡ w.front = ap (take (bit - old.place)) w.parts ∙ take_at w.front (w.bit ∷ bits_left new) (bit - old.place) (omega arith) in
+    let and_it : take (bit + 1 - old.place) (bits_left old) ≡ w.front ++ w.bit ∷ [] =
+    ap (take (bit + 1 - old.place)) (w.parts ∙ sym (append_assoc w.front (w.bit ∷ []) (bits_left new))) ∙ (take_at (w.front ++ w.bit ∷ []) (bits_left new) (bit + 1 - old.place) (omega (arith, length-append w.front (w.bit ∷ [])))) in
+    record {
+      inside = omega arith;
+      after = after;
+      hopeful = rw before w.hopeful;
+      hopeless = λ h. w.hopeless (rw and_it at h);
+    }
+
+short_or_read : {B : Type 0} (r : Parsed B) (v : B) (rest : List Bool) → r ≡ TooShort → r ≡ Read v rest → ⊥
+short_or_read r v rest short read = cc
+
+early_end : {B : Type 0} (W : B → List Bool → Type 0) (f : List Bool → Parsed B) → IsExact W f → (old new : EyeState) (bit : ℕ) → MovesOn old new → f (bits_left old) ≡ TooShort → bit ≡ length new.bits → new.place ≡ length new.bits
+    → IsEarlyEnd (λ word. (value : B) × W value word) old new bit
+early_end W f exact old new bit moves short all at_end = record {
+  all = rw (← moves.bits) all;
+  at_end = rw (← moves.bits) at_end;
+  hopeful = exact.short_is (bits_left old) short;
+  incomplete = λ word rest w parts. short_or_read (f (bits_left old)) w.0 rest short (ap f parts ∙ exact.reads w.0 word rest w.1);
+}
+
+pub fault_by : {A B : Type 0} (W : B → List Bool → Type 0) (f : List Bool → Parsed B) → IsExact W f → (view : A → B) (old new : EyeState) (result : Result A BitFault) → MovesOn old new → Gives view result new (f (bits_left old))
+    → IfErr result (λ fault. IsFirstFault (λ word. (value : B) × W value word) old new fault)
+fault_by W f exact view old new (Ok x) moves given = tt
+fault_by W f exact view old new (Err (Wrong bit)) moves given = first_wrong W f exact old new bit moves given.0 given.1 given.2
+fault_by W f exact view old new (Err (EndsEarly bit)) moves given = early_end W f exact old new bit moves given.0 given.1 given.2
+
+-- ---- one word after another
+
+pub parse_word-append : (a b bits : List Bool) → parse_word (a ++ b) bits ≡ (parse_word a bits >>= λ u rest. parse_word b rest)
+unfolding parse_word
+parse_word-append [] b bits = refl
+parse_word-append (x ∷ a) b [] = refl
+parse_word-append (true ∷ a) b (true ∷ bits) = parse_word-append a b bits
+parse_word-append (true ∷ a) b (false ∷ bits) = refl
+parse_word-append (false ∷ a) b (true ∷ bits) = refl
+parse_word-append (false ∷ a) b (false ∷ bits) = parse_word-append a b bits
+
+pub same_fault : (a b : List Bool) (old new : EyeState) (fault : BitFault) → Gives (λ (u : Unit {0}). tt) (Err fault) new (parse_word a (bits_left old)) → Gives (λ (u : Unit {0}). tt) (Err fault) new (parse_word (a ++ b) (bits_left old))
+same_fault a b old new fault given =
+    rw (parse_word-append a b (bits_left old)) (Gives-then_err (λ (u : Unit {0}). tt) (λ (u : Unit {0}). tt) fault new (parse_word a (bits_left old)) (λ u rest. parse_word b rest) given)
+
+pub same_more : (a b left rest : List Bool) → parse_word a left ≡ Read tt rest → parse_word (a ++ b) left ≡ parse_word b rest
+same_more a b left rest read = parse_word-append a b left ∙ rw read refl
+
+-- ---- one bit after another
+
+pub parse_word-none : (bits : List Bool) → parse_word [] bits ≡ Read tt bits
+unfolding parse_word
+parse_word-none bits = refl
+
+pub parse_word-more : (bit found : Bool) (word bits rest : List Bool) → bit_where (allowed (not bit) bit) bits ≡ Read found rest → parse_word (bit ∷ word) bits ≡ parse_word word rest
+unfolding parse_word
+parse_word-more bit found word bits rest read = rw read refl
+
+pub parse_word-fault : (bit : Bool) (word : List Bool) (old new : EyeState) (fault : BitFault) → Gives (λ (found : Bool). found) (Err fault) new (bit_where (allowed (not bit) bit) (bits_left old))
+    → Gives (λ (u : Unit {0}). tt) (Err fault) new (parse_word (bit ∷ word) (bits_left old))
+unfolding parse_word
+parse_word-fault bit word old new fault given =
+    Gives-then_err (λ (found : Bool). found) (λ (u : Unit {0}). tt) fault new (bit_where (allowed (not bit) bit) (bits_left old)) (λ found rest. parse_word word rest) given
+
+-- ---- exact
+
+right_bit : (wanted : Bool) → allowed (not wanted) wanted wanted ≡ true
+right_bit true = refl
+right_bit false = refl
+
+only_bit : (wanted bit : Bool) → allowed (not wanted) wanted bit ≡ true → bit ≡ wanted
+only_bit true true e = refl
+only_bit true false e = absurd cc
+only_bit false true e = absurd cc
+only_bit false false e = refl
+
+pub IsExact-same_at : (word : List Bool) → IsExact (λ (u : Unit {0}) (w : List Bool). w ≡ word) (parse_word word)
+unfolding parse_word
+IsExact-same_at [] =
+    IsExact-same (λ (u : Unit {0}) (w : List Bool). (u ≡ tt) × (w ≡ [])) (λ (u : Unit {0}) (w : List Bool). w ≡ []) (parse_word []) (λ u w h. h.1) (λ u w h. (refl, h)) (IsExact-give tt)
+IsExact-same_at (wanted ∷ word) =
+    IsExact-same (IsWordThen (IsBitWhere (allowed (not wanted) wanted)) (λ (bit : Bool) (u : Unit {0}) (w : List Bool). w ≡ word)) (λ (u : Unit {0}) (w : List Bool). w ≡ wanted ∷ word) (parse_word (wanted ∷ word))
+    (λ u w h. h.5 ∙ rw (h.3.1, h.4, only_bit wanted h.0 h.3.0) refl)
+    (λ u w h. (wanted, wanted ∷ [], word, (right_bit wanted, refl), refl, h))
+    (IsExact-then (IsBitWhere (allowed (not wanted) wanted)) (λ (bit : Bool) (u : Unit {0}) (w : List Bool). w ≡ word) (bit_where (allowed (not wanted) wanted)) (λ (bit : Bool) (rest : List Bool). parse_word word rest)
+    (IsExact-bit_where (allowed (not wanted) wanted) wanted (right_bit wanted))
+    (λ bit w h. IsExact-same_at word)
+    (λ bit w h. (tt, word, refl)))
+
+-- ---- what follows from a reading
+
+pub matched : (word : List Bool) (old new : EyeState) (result : Result (Unit {0}) BitFault) → Gives (λ (u : Unit {0}). tt) result new (parse_word word (bits_left old)) → OnOk result (bits_left old ≡ word ++ bits_left new)
+matched word old new (Ok u) given =
+    let r = (IsExact-same_at word).read_is (bits_left old) tt (bits_left new) given in
+    r.2 ∙ ap (λ (w : List Bool). w ++ bits_left new) r.1
+matched word old new (Err fault) given = tt
+
+pub matched_only : (word : List Bool) (old new : EyeState) (result : Result (Unit {0}) BitFault) → Gives (λ (u : Unit {0}). tt) result new (parse_word word (bits_left old)) → (rest : List Bool) → bits_left old ≡ word ++ rest → IsOk result
+matched_only word old new result given rest parts =
+    (only_read tt tt rest new result (parse_word word (bits_left old)) given (ap (parse_word word) parts ∙ (IsExact-same_at word).reads tt word rest refl)).0
+
+first_fault_same : (W U : List Bool → Type 0) → ((word : List Bool) → W word → U word) → ((word : List Bool) → U word → W word) → (old new : EyeState) (fault : BitFault) → IsFirstFault W old new fault → IsFirstFault U old new fault
+first_fault_same W U to from old new (Wrong bit) h = record {
+  inside = h.inside;
+  after = h.after;
+  hopeful = (h.hopeful.0, to (take (bit - old.place) (bits_left old) ++ h.hopeful.0) h.hopeful.1);
+  hopeless = λ can. h.hopeless (can.0, from (take (bit + 1 - old.place) (bits_left old) ++ can.0) can.1);
+}
+first_fault_same W U to from old new (EndsEarly bit) h = record {
+  all = h.all;
+  at_end = h.at_end;
+  hopeful = (h.hopeful.0, to (bits_left old ++ h.hopeful.0) h.hopeful.1);
+  incomplete = λ word rest u. h.incomplete word rest (from word u);
+}
+
+pub matched_fault : (word : List Bool) (old new : EyeState) (result : Result (Unit {0}) BitFault) → MovesOn old new → Gives (λ (u : Unit {0}). tt) result new (parse_word word (bits_left old)) → IfErr result (λ fault. IsFirstFault (λ w. w ≡ word) old new fault)
+matched_fault word old new (Ok u) moves given = tt
+matched_fault word old new (Err fault) moves given =
+    first_fault_same (λ (w : List Bool). (u : Unit {0}) × (w ≡ word)) (λ (w : List Bool). w ≡ word) (λ w h. h.1) (λ w h. (tt, h)) old new fault
+    (fault_by (λ (u : Unit {0}) (w : List Bool). w ≡ word) (parse_word word) (IsExact-same_at word) (λ (u : Unit {0}). tt) old new (Err fault) moves given)

@@ -11,8 +11,7 @@ use Rattle.std.proofs.lemmas.Nat.Bits.{bit_at-zero, same_from_bits_below}
 use Rattle.bit_vectors.specs.Vectors.{IsOne, NoneIsOne, bits_of, byte_count, padded, vector_bytes, without_bits}
 use Rattle.bit_vectors.specs.Words.{word_count, word_bits, bit_of, vector_of, AreWords, NoBitIsOne, IsWord, HasNoSpareBit}
 use Rattle.bit_vectors.proofs.Lists.{get_or-replicate_same}
-use Rattle.bit_vectors.proofs.Numbers.{same_bit}
-use Rattle.bit_vectors.proofs.ByteBits.{length-bits_of, length-padded, get_or-padded, zeros_is, zero_from_none, vector_bytes_is}
+use Rattle.bit_vectors.proofs.NumberBits.{same_bit, length-bits_of, length-padded, get_or-padded, zeros_is, zero_from_none, vector_bytes_is}
 use Rattle.bit_vectors.proofs.Places.{get_or-zip2_all}
 use Rattle.bit_vectors.proofs.WordBits.{Bitwise-drop, Zips, zipped_bits, zipped_numbers, get_or-word_bits, length-vector_of, get_or-vector_of, vector_of_is, bit_of-set_in, bit_of-set_out, numbers-set}
 

@@ -8,14 +8,11 @@ use Rattle.std.proofs.lemmas.List.Concat.{flat_map-append}
 use Rattle.std.proofs.lemmas.Nat.{pow-add, pow_pos, mod_below, shl-shr, shr_split, shr_below, shl_below, shl_whole, mul-mod_first}
 use Rattle.std.proofs.Math.Nat.{mul-mod_left}
 use Rattle.std.proofs.Math.Seq.{take-add, take-append-add}
-use Rattle.bit_vectors.specs.Eye.{Shows}
+use Rattle.bit_vectors.specs.Reading.{Shows}
 use Rattle.bit_vectors.specs.Vectors.{number_bits, bits_of, AreBytes, byte_count, padded, vector_bytes}
 use Rattle.bit_vectors.specs.Pen.{written_bits, HasRoom}
-use Rattle.bit_vectors.proofs.NumberBits.{length-number_bits}
-use Rattle.bit_vectors.proofs.Numbers.{number_bits-cat, number_bits-split, number_bits-mod, high_bits}
-use Rattle.bit_vectors.proofs.ByteBits.{length-bits_of, bits_of-take, vector_bytes_is}
-use Rattle.bit_vectors.proofs.FrontWord.{bits_of-to_be_bytes, shl_word, shown_front}
-use Rattle.bit_vectors.proofs.WordParts.{cat_below}
+use Rattle.bit_vectors.proofs.NumberBits.{length-number_bits, number_bits-cat, number_bits-split, number_bits-mod, high_bits, length-bits_of, bits_of-take, vector_bytes_is}
+use Rattle.bit_vectors.proofs.WordBytes.{bits_of-to_be_bytes, shl_word, shown_front, cat_below}
 
 pub no_bits : (n : ℕ) → number_bits 0 n ≡ []
 unfolding number_bits

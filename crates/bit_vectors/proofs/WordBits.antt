@@ -9,8 +9,7 @@ use Rattle.std.proofs.lemmas.Nat.{xor_lt, or_lt, and_le_l, shr_le, shr_below, on
 use Rattle.std.proofs.lemmas.Nat.Bits.{bit_at-zero, bit_at-lt, bit_at_above, bit_at_xor, bit_at_or, bit_at_and, bit_at_not, bit_at-trailing_zeros}
 use Rattle.bit_vectors.specs.Vectors.{number_bits}
 use Rattle.bit_vectors.specs.Words.{word_bits, bit_of, vector_of, AreWords, NoBitIsOne}
-use Rattle.bit_vectors.proofs.NumberBits.{length-number_bits, get_or-number_bits}
-use Rattle.bit_vectors.proofs.Numbers.{by_digits, bit_at_mod, bit_at_shr, bit_at_shl, bit_at_shl_low, leading_is_one}
+use Rattle.bit_vectors.proofs.NumberBits.{length-number_bits, get_or-number_bits, by_digits, bit_at_mod, bit_at_shr, bit_at_shl, bit_at_shl_low, leading_is_one}
 
 pub length-word_bits : (words : List ℕ) → length (word_bits words) ≡ 64 * length words
 length-word_bits [] = refl

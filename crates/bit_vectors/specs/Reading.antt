@@ -1,11 +1,31 @@
--- Reading a list of bits from its front: the value that its first bits spell and the bits after them, or the first
--- fault. A reader is exact for words if it gives each word's value, and finds each fault at the first bit at which
--- it can be seen.
-use Rattle.std.specs.Prelude.{◌≡◌, ℕ, ◌+◌, ◌-◌, ◌<◌, ◌≤◌, nat_le, Bool, true, not, List, [], ◌∷◌, ◌++◌, length, take, drop, Result, Ok, Err, if◌then◌else◌}
+-- Reading a list of bits from its front, and what an eye sees of it.
+use Rattle.std.specs.Int.{bit_at}
+use Rattle.std.specs.Prelude.{◌≡◌, ℕ, ◌-◌, ◌<◌, ◌==◌, Bool, false, List, drop, slice_index_or, ◌+◌, ◌≤◌, nat_le, true, not, [], ◌∷◌, ◌++◌, length, take, Result, Ok, Err, if◌then◌else◌}
+use Rattle.bit_vectors.specs.Vectors.{bits_number}
 use Rattle.bit_vectors.specs.declared.fault.BitFault.{BitFault}
 use Rattle.bit_vectors.specs.declared.fault.BitFault.TheVariants.{Wrong, EndsEarly}
-use Rattle.bit_vectors.specs.Vectors.{bits_number}
-use Rattle.bit_vectors.specs.Eye.{EyeState, bits_left}
+
+-- ---- what an eye sees: all bits, and the number of the next one
+
+pub record EyeState : Type 0 where
+  pub bits : List Bool
+  pub place : ℕ
+
+-- the bits that are still to be read
+abbrev pub bits_left : EyeState → List Bool
+bits_left eye = drop eye.place eye.bits
+
+-- as many of the first bits of a word as given are the first of these bits, and zeros after their end
+abbrev pub ShowsFirst : ℕ → List Bool → ℕ → Type 0
+ShowsFirst count bits word = (k : ℕ) → k < count → (bit_at word (63 - k) == 1) ≡ slice_index_or bits k false
+
+-- all 64 bits of a word
+abbrev pub Shows : List Bool → ℕ → Type 0
+Shows bits word = ShowsFirst 64 bits word
+
+-- ---- reading a list of bits from its front: the value that its first bits spell and the bits after them, or the first
+-- fault. A reader is exact for words if it gives each word's value, and finds each fault at the first bit at which
+-- it can be seen
 
 -- a value and the bits after it; the bits after the first wrong one; or the bits end before a word does
 pub data Parsed (A : Type 0) : Type 0 where

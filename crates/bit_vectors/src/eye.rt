@@ -2,7 +2,7 @@
 
 ghost use Rattle.std.specs.Prelude.{◌≡◌, ◌+◌, ◌*◌, ◌<◌, ◌≤◌, ◌↔◌, [], ◌∷◌, Bool, List, length, drop, slice_index_or, false, IsNone, IfSome, OnSome, IfNone};
 ghost use Rattle.bit_vectors.specs.Vectors.{bits_of};
-ghost use Rattle.bit_vectors.specs.Eye.{EyeState, bits_left, Shows};
+ghost use Rattle.bit_vectors.specs.Reading.{EyeState, bits_left, Shows};
 
 use crate::front::front_word;
 use std::marker::Model;
@@ -20,7 +20,7 @@ pub struct BitEye<'a> {
 impl<'a> Model for BitEye<'a> {
     ghost use Rattle.std.specs.Prelude.{◌≤◌, ◌*◌, ◌-◌, length, drop};
     ghost use Rattle.bit_vectors.specs.Vectors.{bits_of};
-    ghost use Rattle.bit_vectors.specs.Eye.{EyeState, Shows};
+    ghost use Rattle.bit_vectors.specs.Reading.{EyeState, Shows};
 
     ghost Value = { EyeState };
 

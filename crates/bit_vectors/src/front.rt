@@ -2,7 +2,7 @@
 
 ghost use Rattle.std.specs.Prelude.{◌≡◌, ◌<◌, length, slice_index};
 ghost use Rattle.bit_vectors.specs.Vectors.{bits_of};
-ghost use Rattle.bit_vectors.specs.Eye.{Shows};
+ghost use Rattle.bit_vectors.specs.Reading.{Shows};
 
 /// The first 64 bits, with zeros after the end.
 pub fn front_word(bytes: &[u8]) -> u64

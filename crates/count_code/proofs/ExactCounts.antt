@@ -8,16 +8,13 @@ use Rattle.std.proofs.lemmas.Nat.Bits.{bit_at_above}
 use Rattle.bit_vectors.specs.Vectors.{number_bits}
 use Rattle.std.specs.Prelude.{IfOk}
 use Rattle.bit_vectors.specs.declared.fault.BitFault.{BitFault}
-use Rattle.bit_vectors.specs.Eye.{EyeState, bits_left}
-use Rattle.bit_vectors.specs.Reading.{Gives, Parsed, Read, ◌>>=◌, bit_where, allowed, IsExact}
+use Rattle.bit_vectors.specs.Reading.{EyeState, bits_left, Gives, Parsed, Read, ◌>>=◌, bit_where, allowed, IsExact}
 use Rattle.bit_vectors.proofs.ExactReading.{IsBitWhere, IsWordThen, IsExact-give, IsExact-bit_where, IsExact-same, IsExact-then}
 use Rattle.count_code.specs.declared.count.Count.{Count}
 use Rattle.count_code.specs.declared.count.Count.TheVariants.{Value, End}
 use Rattle.count_code.specs.Code.{digits, count_bits}
 use Rattle.count_code.specs.Counts.{word_of, IsCount, IsWithin, IsCodeOf, parse_bounded, parse_long, parse_above_one, parse_after_one, parse_count}
-use Rattle.count_code.proofs.Digits.{power_le, power_more, HasDigits, digits_is, digits_of, digits_long}
-use Rattle.count_code.proofs.CountWords.{count_bits-one, count_bits-short, count_bits-long}
-use Rattle.count_code.proofs.ExactNumbers.{IsNumberOf, next_bit, number_bits-suc, first_number, too_high, below_power, below_most, IsExact-bounded_at}
+use Rattle.count_code.proofs.CountWords.{power_le, power_more, HasDigits, digits_is, digits_of, digits_long, count_bits-one, count_bits-short, count_bits-long, IsNumberOf, next_bit, number_bits-suc, first_number, too_high, below_power, below_most, IsExact-bounded_at}
 
 -- ---- numbers after zeros
 

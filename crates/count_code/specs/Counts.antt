@@ -1,7 +1,6 @@
 -- Words within a limit, and reading them.
 use Rattle.std.specs.Prelude.{◌≡◌, ℕ, zero, suc, ◌+◌, ◌-◌, ◌*◌, ◌^◌, ◌≤◌, nat_le, Bool, true, false, if◌then◌else◌, List, ◌++◌, length}
-use Rattle.bit_vectors.specs.Eye.{ShowsFirst}
-use Rattle.bit_vectors.specs.Reading.{Parsed, Read, ◌>>=◌, bit_where, allowed}
+use Rattle.bit_vectors.specs.Reading.{ShowsFirst, Parsed, Read, ◌>>=◌, bit_where, allowed}
 use Rattle.count_code.specs.declared.ahead.Ahead.{Ahead}
 use Rattle.count_code.specs.declared.count.Count.{Count}
 use Rattle.count_code.specs.declared.count.Count.TheVariants.{Value, End}

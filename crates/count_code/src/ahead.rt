@@ -1,7 +1,7 @@
 //! Counts whose whole words are seen ahead. The words are compared with bits that were looked at once for several counts.
 
 ghost use Rattle.std.specs.Prelude.{◌≡◌, ◌≤◌, List, Bool, take, drop, IfSome};
-ghost use Rattle.bit_vectors.specs.Eye.{bits_left};
+ghost use Rattle.bit_vectors.specs.Reading.{bits_left};
 ghost use Rattle.bit_vectors.specs.Vectors.{most_places};
 ghost use Rattle.count_code.specs.Counts.{AreAhead, IsWithin, word_of};
 

@@ -1,8 +1,7 @@
 //! Bits against the word of a known count (CCSDS 124.0-B-1).
 
 ghost use Rattle.std.specs.Prelude.{◌≡◌, ◌++◌, List, Bool, IsOk, IfErr, OnOk};
-ghost use Rattle.bit_vectors.specs.Eye.{bits_left};
-ghost use Rattle.bit_vectors.specs.Reading.{MovesOn, Gives, IsFirstFault, parse_word};
+ghost use Rattle.bit_vectors.specs.Reading.{bits_left, MovesOn, Gives, IsFirstFault, parse_word};
 ghost use Rattle.count_code.specs.Code.{count_bits};
 ghost use Rattle.bit_vectors.specs.Vectors.{IsPlaces};
 

@@ -1,8 +1,7 @@
 //! Counts from bits. A count whose whole word is seen ahead is read at once; the readers bit by bit are for the faults.
 
 ghost use Rattle.std.specs.Prelude.{◌≡◌, ◌-◌, ◌*◌, ◌^◌, ◌≤◌, ◌++◌, Bool, List, Ok, IfOk, IfErr};
-ghost use Rattle.bit_vectors.specs.Eye.{bits_left};
-ghost use Rattle.bit_vectors.specs.Reading.{Gives, MovesOn, IsFirstFault};
+ghost use Rattle.bit_vectors.specs.Reading.{bits_left, Gives, MovesOn, IsFirstFault};
 ghost use Rattle.bit_vectors.specs.Vectors.{most_places};
 ghost use Rattle.count_code.specs.Counts.{AreAhead, word_of, IsWithin, IsCode, parse_bounded, parse_long, parse_above_one, parse_after_one, parse_count};
 ghost use Rattle.count_code.specs.declared.count.Count.{Count};

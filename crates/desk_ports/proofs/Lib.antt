@@ -1,14 +1,4 @@
-pub mod Faults
-pub mod Transfers
-pub mod ReadAheads
-pub mod Runs
 pub mod Courses
 pub mod Steps
-pub mod WalkTurns
+pub mod Desks
 pub mod Logs
-pub mod Cursors
-pub mod Held
-pub mod KeptInputs
-pub mod Writings
-pub mod Granting
-pub mod Names

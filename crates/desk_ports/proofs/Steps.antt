@@ -1,15 +1,16 @@
--- How the turns of a run are made and joined.
-use Rattle.std.proofs.Common.{◌≡◌, ℕ, Bool, List, [], ◌++◌, Option, Some, None, Result, Ok, Err, refl, sym, ap, ◌∙◌, subst, append_assoc, append-nil}
-use Rattle.std.specs.Io.KnownBytes.{IsAtEnd}
+-- Turns and steps of a run, and writes to a desk: how they are made and joined.
+use Rattle.std.specs.Io.KnownBytes.{IsAtEnd, append_known}
+use Rattle.std.proofs.Common.{◌≡◌, ℕ, Bool, List, [], ◌++◌, Option, Some, None, Result, Ok, Err, refl, sym, ap, ◌∙◌, subst, append_assoc, append-nil, ◌∷◌, IfSome, length, take, drop, take-append-drop, IsErrAnd}
+use Rattle.std.proofs.Math.Seq.{take-append_seam}
+use Rattle.std.proofs.lemmas.List.{take-map}
+use Rattle.std.proofs.lemmas.Result.{on_ok_weaker, on_err_weaker, err_from_is_err_and}
+use Rattle.desk_ports.specs.Courses.{Outputs, Ran, Course, owed, written_first, AreFronts, Went, Ends, IsCutOff, IsCutShort, Work, Finishes, AfterStop, AfterRun, WalkOver, WalkWork, course_on, work_on, to_outlet, with_bytes}
+use Rattle.desk_ports.specs.Meanings.{Stop, Data, ReadFault, WriteFault, Meanings, Moves, left, Counts, Adds, AddsFront, IsReadyOut, HasWriteCause, made}
+use Rattle.desk_ports.specs.Turns.{AreReady, Steps, Reaches, Advances, IsLast, Wrote, WroteFront, Writes}
 use Rattle.desk_ports.specs.declared.desk.Inlet.TheVariants as inlet
 use Rattle.desk_ports.specs.declared.desk.Outlet.{Outlet}
-use Rattle.desk_ports.specs.Stop.{Stop, Data, ReadFault, WriteFault}
-use Rattle.desk_ports.specs.Meanings.{Meanings, Moves, left}
-use Rattle.desk_ports.specs.Courses.{Outputs, Ran, Course, owed, written_first, AreFronts, Went, Ends, IsCutOff, IsCutShort, Work, Finishes, AfterStop, AfterRun}
-use Rattle.desk_ports.specs.Turns.{AreReady, Steps, Reaches, Advances, IsLast, Wrote, WroteFront}
-use Rattle.desk_ports.proofs.Runs.{Ran-none, Ran-then, Ran-moves, Ran-ready_in, Ran-ready_out}
-use Rattle.desk_ports.proofs.Courses.{owed-written_first, written_first-twice, AreFronts-then, AreFronts-put, rest_of, Went-ran, Went-then, IfSome-IsAtEnd}
-use Rattle.desk_ports.proofs.Transfers.{prepend_known-none}
+use Rattle.desk_ports.specs.declared.desk.Outlet.TheVariants as outlet
+use Rattle.desk_ports.proofs.Courses.{Ran-none, Ran-then, Ran-moves, Ran-ready_in, Ran-ready_out, owed-written_first, written_first-twice, AreFronts-then, AreFronts-put, rest_of, Went-ran, Went-then, IfSome-IsAtEnd, prepend_known-none, Ends-fault, IsCutOff-moves, append_known-none, bytes_for-own, bytes_for-other, to_outlet-append, Ran-adds}
 
 -- ---- joined turns
 
@@ -146,3 +147,182 @@ IsCutShort-end {A = A} {F = F} {a = a} {b = b} {c = c} {last = last} is ends mov
       went = Went-end a b c front.stand moves at_end front.wrote;
       fronts = subst (AreFronts front.stand) (sym (ap owed ends.course)) front.fronts;
     })
+
+-- ---- the walk ends early
+
+-- the fault ends the walk, and no item is before it
+pub record StopsAt {P F : Type 0} (walk : WalkOver P F) (a b : Meanings) (fault : F) : Type 0 where
+  pub taken : List ℕ
+  pub rest : List ℕ
+  pub moved : Moves a b inlet.Main taken
+  pub told : IfSome (left b inlet.Main) (λ bytes. bytes ≡ rest)
+  pub items : walk.items (taken ++ rest) ≡ []
+  pub ending : walk.ending (taken ++ rest) ≡ Some fault
+
+-- a read failed before a whole item was read
+pub record IsCutInItem {P F : Type 0} (walk : WalkOver P F) (a b : Meanings) : Type 0 where
+  pub taken : List ℕ
+  pub moved : Moves a b inlet.Main taken
+  pub items : walk.items taken ≡ []
+
+-- by the reason to end the run
+abbrev pub AfterWalk : {P F : Type 0} → WalkOver P F → Meanings → Meanings → Stop F → Type 0
+AfterWalk walk a b (Data fault) = StopsAt walk a b fault
+AfterWalk walk a b ReadFault = IsCutInItem walk a b
+AfterWalk walk a b WriteFault = ⊥
+
+AfterStop-at : {P A F : Type 0} (k : WalkWork P A) (walk : WalkOver P F) (a b : Meanings) (stop : Stop F) → k.before [] ≡ [] → AfterWalk walk a b stop → AfterStop (course_on k walk) a b stop
+AfterStop-at k walk a b (Data fault) nothing stops = Ends-fault (course_on k walk) a b stops.taken stops.rest fault stops.moved stops.told (ap k.before stops.items ∙ nothing) stops.ending
+AfterStop-at k walk a b ReadFault nothing cut = IsCutOff-moves (course_on k walk) a b cut.taken cut.moved (ap k.before cut.items ∙ nothing)
+AfterStop-at k walk a b WriteFault nothing none = absurd none
+
+-- then the run ends
+pub AfterStop-on : {P A F : Type 0} (k : WalkWork P A) (walk : WalkOver P F) (work : Work A F) (a b : Meanings) (stop : Stop F) → work ≡ work_on k walk → k.before [] ≡ [] → AfterWalk walk a b stop → AfterStop work.course a b stop
+AfterStop-on {A = A} {F = F} k walk work a b stop is nothing after = subst (λ (w : Work A F). AfterStop w.course a b stop) (sym is) (AfterStop-at k walk a b stop nothing after)
+
+-- ---- an item was read
+
+-- Some bytes were read, with which the walk begins with this item; after them it goes on as the later walk.
+pub record TakesItem {P F : Type 0} (walk later : WalkOver P F) (a b : Meanings) (item : P) : Type 0 where
+  pub taken : List ℕ
+  pub moved : Moves a b inlet.Main taken
+  pub items : (rest : List ℕ) → walk.items (taken ++ rest) ≡ item ∷ later.items rest
+  pub ending : (rest : List ℕ) → walk.ending (taken ++ rest) ≡ later.ending rest
+
+-- an item owes this output, and the items after it owe other work
+pub record GoesOn {P A : Type 0} (k next : WalkWork P A) (item : P) (outputs : Outputs) : Type 0 where
+  pub before : (items : List P) → k.before (item ∷ items) ≡ outputs ++ next.before items
+  pub answer : (items : List P) → k.answer (item ∷ items) ≡ next.answer items
+  pub after : (items : List P) → k.after (item ∷ items) ≡ next.after items
+
+-- its bytes were taken, and this output is owed for them
+Steps-on : {P A F : Type 0} {k next : WalkWork P A} {walk later : WalkOver P F} {a b : Meanings} {item : P} {outputs : Outputs} (takes : TakesItem walk later a b item) → GoesOn k next item outputs → Steps (work_on k walk) (work_on next later) takes.taken outputs
+Steps-on {k = k} {later = later} takes goes_on = record {
+  course = λ rest.
+      let before = ap k.before (takes.items rest) ∙ goes_on.before (later.items rest) in
+      let after = ap k.after (takes.items rest) ∙ goes_on.after (later.items rest) in
+      let ending = takes.ending rest in
+      λ i. record { before = before i; after = after i; ending = ending i };
+  answer = λ rest. ap k.answer (takes.items rest) ∙ goes_on.answer (later.items rest);
+}
+
+-- all that it owes was written
+pub Advances-on : {P A F : Type 0} {k next : WalkWork P A} {walk later : WalkOver P F} {work : Work A F} {owes : Work A F → Type 0} {a b d : Meanings} {item : P} {outputs : Outputs}
+    → TakesItem walk later a b item → GoesOn k next item outputs → work ≡ work_on k walk → Wrote b d outputs → owes (work_on next later) → Advances work owes a d
+Advances-on takes goes_on is wrote owed = Advances-taken is (Steps-on takes goes_on) takes.moved wrote owed
+
+-- and if a write failed, only a prefix of it was written
+pub IsCutShort-on : {P A F : Type 0} {k next : WalkWork P A} {walk later : WalkOver P F} {work : Work A F} {a b d : Meanings} {item : P} {outputs : Outputs}
+    → TakesItem walk later a b item → GoesOn k next item outputs → work ≡ work_on k walk → WroteFront b d outputs → IsCutShort work.course a d
+IsCutShort-on takes goes_on is front = IsCutShort-taken is (Steps-on takes goes_on) takes.moved front
+
+-- ---- nothing is left
+
+-- the walk is at its end, and so is the input
+pub record IsOver {P F : Type 0} (walk : WalkOver P F) (a b : Meanings) : Type 0 where
+  pub items : walk.items [] ≡ []
+  pub ending : walk.ending [] ≡ None
+  pub moved : Moves a b inlet.Main []
+  pub at_end : IsAtEnd (left a inlet.Main)
+
+-- if there is no item, this last part alone is owed, and this is the answer
+pub record IsDone {P A : Type 0} (k : WalkWork P A) (last : Outputs) (answer : A) : Type 0 where
+  pub nothing : k.before [] ≡ []
+  pub last_is : k.after [] ≡ last
+  pub answer_is : k.answer [] ≡ answer
+
+IsLast-on : {P A F : Type 0} {k : WalkWork P A} {walk : WalkOver P F} {a b : Meanings} {last : Outputs} {answer : A} → IsDone k last answer → IsOver walk a b → IsLast (work_on k walk) last answer
+IsLast-on {k = k} done over =
+    let nothing = ap k.before over.items ∙ done.nothing in
+    let after = ap k.after over.items ∙ done.last_is in
+    let ending = over.ending in
+    record { course = λ i. record { before = nothing i; after = after i; ending = ending i }; answer = ap k.answer over.items ∙ done.answer_is }
+
+-- the last part was written
+pub Finishes-on : {P A F : Type 0} {k : WalkWork P A} {walk : WalkOver P F} {work : Work A F} {a b d : Meanings} {last : Outputs} {answer : A} → IsDone k last answer → IsOver walk a b → work ≡ work_on k walk → Wrote b d last → Finishes work a d answer
+Finishes-on done over is wrote = Finishes-end is (IsLast-on done over) over.moved over.at_end wrote
+
+-- and if a write failed, only a prefix of it was written
+pub IsCutShort-end-on : {P A F : Type 0} {k : WalkWork P A} {walk : WalkOver P F} {work : Work A F} {a b d : Meanings} {last : Outputs} {answer : A} → IsDone k last answer → IsOver walk a b → work ≡ work_on k walk → WroteFront b d last → IsCutShort work.course a d
+IsCutShort-end-on done over is front = IsCutShort-end is (IsLast-on done over) over.moved over.at_end front
+
+-- ---- one outlet
+
+pub Wrote-adds : {a b : Meanings} {bytes : List ℕ} (o : Outlet) → Adds a b o bytes → Wrote a b (to_outlet o bytes)
+Wrote-adds {a = a} {b = b} {bytes = bytes} o adds = Ran-adds a b o bytes adds
+
+pub WroteFront-adds : {a b : Meanings} {bytes : List ℕ} (o : Outlet) → AddsFront a b o bytes → WroteFront a b (to_outlet o bytes)
+WroteFront-adds o cut = record { stand = to_outlet o cut.front; wrote = Wrote-adds o cut.added; fronts = record { rest = to_outlet o cut.rest; joined = sym (to_outlet-append o cut.front cut.rest) ∙ ap (to_outlet o) cut.joined } }
+
+-- and back
+pub Adds-wrote : {a b : Meanings} {bytes : List ℕ} (o : Outlet) → Wrote a b (to_outlet o bytes) → Adds a b o bytes
+Adds-wrote {a = a} {b = b} {bytes = bytes} outlet.Main wrote =
+    let input : left b inlet.Main ≡ left a inlet.Main = prepend_known-none (left b inlet.Main) ∙ sym wrote.input in
+    let report : made b outlet.Report ≡ made a outlet.Report = wrote.report ∙ (ap (append_known (made a outlet.Report)) (bytes_for-other outlet.Report bytes) ∙ sym (append_known-none (made a outlet.Report))) in
+    record { added = wrote.output ∙ ap (append_known (made a outlet.Main)) (bytes_for-own outlet.Main bytes); others = wrote.others ∙ λ i. with_bytes a (input i) (made b outlet.Main) (report i) }
+Adds-wrote {a = a} {b = b} {bytes = bytes} outlet.Report wrote =
+    let input : left b inlet.Main ≡ left a inlet.Main = prepend_known-none (left b inlet.Main) ∙ sym wrote.input in
+    let output : made b outlet.Main ≡ made a outlet.Main = wrote.output ∙ (ap (append_known (made a outlet.Main)) (bytes_for-other outlet.Main bytes) ∙ sym (append_known-none (made a outlet.Main))) in
+    record { added = wrote.report ∙ ap (append_known (made a outlet.Report)) (bytes_for-own outlet.Report bytes); others = wrote.others ∙ λ i. with_bytes a (input i) (output i) (made b outlet.Report) }
+
+pub AddsFront-wrote : {a b : Meanings} {bytes : List ℕ} (o : Outlet) → WroteFront a b (to_outlet o bytes) → AddsFront a b o bytes
+AddsFront-wrote {a = a} {b = b} {bytes = bytes} o cut =
+    let n = length cut.stand in
+    let all = sym (take-append_seam cut.stand cut.fronts.rest) ∙ (ap (take n) cut.fronts.joined ∙ take-map (λ (byte : ℕ). (o, byte)) n bytes) in
+    record { front = take n bytes; rest = drop n bytes; joined = take-append-drop n bytes; added = Adds-wrote o (subst (Wrote a b) all cut.wrote) }
+
+-- ---- one write after another
+
+pub Wrote-then : {a b c : Meanings} {x y : Outputs} → Wrote a b x → Wrote b c y → Wrote a c (x ++ y)
+Wrote-then {a = a} {b = b} {c = c} {x = x} {y = y} first next = Ran-then a b c [] [] x y first next
+
+WroteFront-after : {a b c : Meanings} {x y : Outputs} → Wrote a b x → WroteFront b c y → WroteFront a c (x ++ y)
+WroteFront-after {x = x} {y = y} first cut = record { stand = x ++ cut.stand; wrote = Wrote-then first cut.wrote; fronts = AreFronts-put x cut.stand y cut.fronts }
+
+-- these outputs were written, and nothing else happened
+abbrev pub HasWritten : {D : Type 0} → (D → Meanings) → (D → Counts) → D → D → Outputs → Type 0
+HasWritten meaning counts old new outputs = Writes {T = Unit {0}} {E = Unit {0}} meaning counts old new outputs (Ok tt)
+
+-- nothing was written
+pub Writes-none : {D T E : Type 0} {meaning : D → Meanings} {counts : D → Counts} {a : D} {t : T} → Writes {E = E} meaning counts a a [] (Ok t)
+Writes-none {meaning = meaning} {a = a} = record { wrote = Ran-none (meaning a); front = tt; cause = refl }
+
+module _ {D T E : Type 0} {meaning : D → Meanings} {counts : D → Counts} {a b : D} where
+  -- an opened outlet stays open
+  pub Writes-ready : {x : Outputs} {t : T} (o : Outlet) → Writes {E = E} meaning counts a b x (Ok t) → IsReadyOut (meaning a) o → IsReadyOut (meaning b) o
+  Writes-ready {x = x} o first ready = Ran-ready_out (meaning a) (meaning b) o [] x first.wrote ready
+
+  -- the same outputs in other words
+  pub Writes-is : {x y : Outputs} {r : Result T E} → x ≡ y → Writes meaning counts a b x r → Writes meaning counts a b y r
+  Writes-is {r = r} same writes = subst (λ (o : Outputs). Writes meaning counts a b o r) same writes
+
+  -- a write that was done, and another one after it
+  pub Writes-then : {U F : Type 0} {c : D} {x y : Outputs} {t : T} {r : Result U F} → Writes {E = E} meaning counts a b x (Ok t) → Writes meaning counts b c y r → Writes meaning counts a c (x ++ y) r
+  Writes-then {c = c} {r = r} first next = record {
+    wrote = on_ok_weaker r (Wrote-then first.wrote) next.wrote;
+    front = on_err_weaker r (WroteFront-after first.wrote) next.front;
+    cause = subst (λ (k : Counts). HasWriteCause k (counts c) r) first.cause next.cause;
+  }
+
+  -- the same writes, with another answer
+  pub Writes-ok : {U F : Type 0} {x : Outputs} {t : T} {u : U} → Writes {E = E} meaning counts a b x (Ok t) → Writes {E = F} meaning counts a b x (Ok u)
+  Writes-ok first = record { wrote = first.wrote; front = tt; cause = first.cause }
+
+  pub Writes-err : {U F : Type 0} {x : Outputs} {e : E} {r : Result U F} (Q : F → Type 0) → IsErrAnd r Q → Writes {T = T} meaning counts a b x (Err e) → Writes meaning counts a b x r
+  Writes-err {r = r} Q failed first = let p = err_from_is_err_and r failed in rw p.1 (record { wrote = tt; front = first.front; cause = first.cause })
+
+  -- a write that failed, and others that were to come after it
+  pub Writes-cut : {U F : Type 0} {x : Outputs} {e : E} {r : Result U F} (Q : F → Type 0) (y : Outputs) → IsErrAnd r Q → Writes {T = T} meaning counts a b x (Err e) → Writes meaning counts a b (x ++ y) r
+  Writes-cut {x = x} {r = r} Q y failed first =
+      let p = err_from_is_err_and r failed in
+      let cut = first.front in
+      rw p.1 (record { wrote = tt; front = record { stand = cut.stand; wrote = cut.wrote; fronts = AreFronts-then cut.stand x y cut.fronts }; cause = first.cause })
+
+-- bytes for one outlet, and more of them
+pub Writes-more : {D T E U F : Type 0} {meaning : D → Meanings} {counts : D → Counts} {a b c : D} {t : T} {r : Result U F} (o : Outlet) (xs ys : List ℕ)
+    → Writes {E = E} meaning counts a b (to_outlet o xs) (Ok t) → Writes meaning counts b c (to_outlet o ys) r → Writes meaning counts a c (to_outlet o (xs ++ ys)) r
+Writes-more o xs ys first next = Writes-is (sym (to_outlet-append o xs ys)) (Writes-then first next)
+
+pub Writes-cut-more : {D T E U F : Type 0} {meaning : D → Meanings} {counts : D → Counts} {a b : D} {e : E} {r : Result U F} (Q : F → Type 0) (o : Outlet) (xs ys : List ℕ)
+    → IsErrAnd r Q → Writes {T = T} meaning counts a b (to_outlet o xs) (Err e) → Writes meaning counts a b (to_outlet o (xs ++ ys)) r
+Writes-cut-more Q o xs ys failed first = Writes-is (sym (to_outlet-append o xs ys)) (Writes-cut Q (to_outlet o ys) failed first)

@@ -1,13 +1,14 @@
--- What a command owes for its input, that is, must write, and what a run of it does to a desk, by its answer. Every
--- command reads one input to its end and writes up to two outputs.
-use Rattle.std.specs.Prelude.{◌≡◌, ℕ, List, [], ◌∷◌, ◌++◌, map, Option, Some, None, Result, Ok, Err, IfSome}
-use Rattle.std.specs.List.{flat_map}
+-- What a command owes for its input, what a run of it does to a desk, and work over an input that is walked item by item.
 use Rattle.std.specs.Io.KnownBytes.{prepend_known, append_known}
+use Rattle.std.specs.List.{flat_map}
+use Rattle.std.specs.Prelude.{◌≡◌, ℕ, List, [], ◌∷◌, ◌++◌, map, Option, Some, None, Result, Ok, Err, IfSome}
+use Rattle.desk_ports.specs.Meanings.{Stop, Data, ReadFault, WriteFault, Meanings, Counts, FailsToRead, FailsToWrite, left, made, with_left, with_made}
 use Rattle.desk_ports.specs.declared.desk.Inlet.TheVariants as inlet
 use Rattle.desk_ports.specs.declared.desk.Outlet.{Outlet}
 use Rattle.desk_ports.specs.declared.desk.Outlet.TheVariants as outlet
-use Rattle.desk_ports.specs.Stop.{Stop, Data, ReadFault, WriteFault}
-use Rattle.desk_ports.specs.Meanings.{Meanings, Counts, FailsToRead, FailsToWrite, left, made, with_left, with_made}
+
+-- ---- what a command owes for its input, that is, must write, and what a run of it does to a desk, by its answer. Every
+-- command reads one input to its end and writes up to two outputs
 
 -- bytes for both outlets, each with its outlet, in the order in which they are written
 abbrev pub Outputs : Type 0
@@ -145,3 +146,24 @@ HasCause old new (Ok done) = new ≡ old
 HasCause old new (Err (Data fault)) = new ≡ old
 HasCause old new (Err ReadFault) = FailsToRead old new
 HasCause old new (Err WriteFault) = FailsToWrite old new
+
+-- ---- work over an input that is walked item by item, as a store is by its packets and a recording by its vectors
+
+-- the walk over the bytes that are left: its items in order, and the fault that ends it, or none
+pub record WalkOver (P F : Type 0) : Type 0 where
+  pub items : List ℕ → List P
+  pub ending : List ℕ → Option F
+
+-- what items owe, and, if the input is whole, the answer after them and the output that is owed last
+pub record WalkWork (P A : Type 0) : Type 0 where
+  pub before : List P → Outputs
+  pub answer : List P → A
+  pub after : List P → Outputs
+
+-- what is owed for the bytes that are left
+abbrev pub course_on : {P A F : Type 0} → WalkWork P A → WalkOver P F → List ℕ → Course F
+course_on k walk bytes = record { before = k.before (walk.items bytes); after = k.after (walk.items bytes); ending = walk.ending bytes }
+
+-- the work over them
+abbrev pub work_on : {P A F : Type 0} → WalkWork P A → WalkOver P F → Work A F
+work_on k walk = record { course = course_on k walk; answer = λ bytes. k.answer (walk.items bytes) }

@@ -1,10 +1,6 @@
 pub mod Meanings
-pub mod ReadAhead
-pub mod Stop
-pub mod Courses
 pub mod Turns
-pub mod Writings
-pub mod WalkWorks
+pub mod Courses
 pub mod FileDesk
 pub mod Log
 pub mod MemState

@@ -1,14 +1,16 @@
--- What a desk means: the bytes that come and go, the names, and what each call does to them.
-use Rattle.std.specs.Prelude.{◌≡◌, ℕ, ◌+◌, ◌-◌, ◌^◌, ◌<◌, ◌≤◌, ◌⊎◌, min, Bool, true, false, IsTrue, List, [], ◌++◌, Option, Some, None, Result, Ok, Err, IfSome, unwrap_or}
+-- What a desk means: the bytes that come and go, also those read ahead, the names, and what each call does to them; and why a run ended.
+use Rattle.std.specs.Cmp.Lexicographic.{slice_cmp}
+use Rattle.std.specs.FinMap as map
+use Rattle.std.specs.Io.KnownBytes.{prepend_known, append_known}
 use Rattle.std.specs.Option.{option_map}
 use Rattle.std.specs.Ordering.{nat_cmp}
-use Rattle.std.specs.FinMap as map
-use Rattle.std.specs.Cmp.Lexicographic.{slice_cmp}
-use Rattle.std.specs.Io.KnownBytes.{prepend_known, append_known}
+use Rattle.std.specs.Prelude.{◌≡◌, ℕ, ◌+◌, ◌-◌, ◌^◌, ◌<◌, ◌≤◌, ◌⊎◌, min, Bool, true, false, IsTrue, List, [], ◌++◌, Option, Some, None, Result, Ok, Err, IfSome, unwrap_or}
 use Rattle.desk_ports.specs.declared.desk.Inlet.{Inlet}
 use Rattle.desk_ports.specs.declared.desk.Inlet.TheVariants as inlet
 use Rattle.desk_ports.specs.declared.desk.Outlet.{Outlet}
 use Rattle.desk_ports.specs.declared.desk.Outlet.TheVariants as outlet
+
+-- ---- what a desk means: the bytes that come and go, the names, and what each call does to them
 
 -- an input: the bytes still to come, if the desk tells them, and whether it was opened
 pub record Incoming : Type 0 where
@@ -176,3 +178,26 @@ untold side input output report = record {
 -- the same if nothing was opened
 abbrev pub nothing_told : Meanings
 nothing_told = untold false false false false
+
+-- ---- why a run over a desk ended before it was done
+
+-- its data have a fault, or the desk failed to read or to write
+pub data Stop (F : Type 0) : Type 0 where
+  Data : F → Stop F
+  ReadFault : Stop F
+  WriteFault : Stop F
+
+-- ---- bytes of the main input that are read ahead of what is used
+
+-- Bytes were moved from the main input: they come after those that were ahead, and nothing else changed.
+pub record ReadsOn (before after : List ℕ) (old new : Meanings) : Type 0 where
+  pub bytes : List ℕ
+  pub joined : after ≡ before ++ bytes
+  pub moved : Moves old new inlet.Main bytes
+
+-- the bytes that are ahead begin and end within the room, and there is never more room, so that no memory is taken
+pub record IsAhead (next filled room capacity : ℕ) : Type 0 where
+  pub ordered : next ≤ filled
+  pub within : filled ≤ room
+  pub whole : room ≡ 131072
+  pub taken : capacity ≡ 131072

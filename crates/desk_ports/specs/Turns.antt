@@ -1,13 +1,14 @@
--- What work a run over a desk still has to do, and what one turn of it does.
-use Rattle.std.specs.Prelude.{◌≡◌, ℕ, Bool, IsTrue, List, [], ◌++◌, None, Result, Ok, Err}
+-- What work a run over a desk still has to do, what one turn of it does, and what a call that writes leaves.
+use Rattle.std.specs.Prelude.{◌≡◌, ℕ, Bool, IsTrue, List, [], ◌++◌, None, Result, Ok, Err, OnOk, OnErr}
+use Rattle.desk_ports.specs.Courses.{Outputs, Ran, written_first, AreFronts, Work, Finishes, AfterStop}
+use Rattle.desk_ports.specs.Meanings.{Stop, Meanings, IsReadyIn, IsReadyOut, Counts, HasWriteCause}
 use Rattle.desk_ports.specs.declared.desk.Inlet.TheVariants as inlet
 use Rattle.desk_ports.specs.declared.desk.Outlet.{Outlet}
 use Rattle.desk_ports.specs.declared.desk.Outlet.TheVariants as outlet
-use Rattle.desk_ports.specs.Stop.{Stop}
 use Rattle.desk_ports.specs.declared.turns.Turn.{Turn}
 use Rattle.desk_ports.specs.declared.turns.Turn.TheVariants.{More, Done}
-use Rattle.desk_ports.specs.Meanings.{Meanings, IsReadyIn, IsReadyOut}
-use Rattle.desk_ports.specs.Courses.{Outputs, Ran, written_first, AreFronts, Work, Finishes, AfterStop}
+
+-- ---- what work a run over a desk still has to do, and what one turn of it does
 
 -- there is work that is owed, that is, still to do
 pub record IsOwed {A F : Type 0} (owes : Work A F → Type 0) : Type 0 where
@@ -62,3 +63,12 @@ pub record WroteFront (old new : Meanings) (all : Outputs) : Type 0 where
   pub stand : Outputs
   pub wrote : Wrote old new stand
   pub fronts : AreFronts stand all
+
+-- ---- what a call that writes to a desk leaves, by its answer
+
+-- After Ok all of these outputs were written. After Err a write failed, and a prefix of them was written. Nothing else
+-- happened.
+pub record Writes {D T E : Type 0} (meaning : D → Meanings) (counts : D → Counts) (old new : D) (outputs : Outputs) (result : Result T E) : Type 0 where
+  pub wrote : OnOk result (Wrote (meaning old) (meaning new) outputs)
+  pub front : OnErr result (WroteFront (meaning old) (meaning new) outputs)
+  pub cause : HasWriteCause (counts old) (counts new) result

@@ -2,8 +2,7 @@
 
 ghost use Rattle.std.specs.Prelude.{◌≡◌, ◌+◌, ◌-◌, ◌<◌, ◌≤◌, [], length, take, drop, true, false, Ok, All, IfOk, OnErr};
 ghost use Rattle.std.specs.Io.KnownBytes.{IsAtEnd};
-ghost use Rattle.desk_ports.specs.Meanings.{IsReadyIn, HasReadCause, left};
-ghost use Rattle.desk_ports.specs.ReadAhead.{ReadsOn};
+ghost use Rattle.desk_ports.specs.Meanings.{IsReadyIn, HasReadCause, left, ReadsOn};
 
 use crate::desk::{Desk, Failed, Inlet};
 use bit_vectors::zero_bytes;
@@ -25,7 +24,7 @@ pub struct ReadAhead {
 impl Model for ReadAhead {
     ghost use Rattle.std.specs.Prelude.{ℕ, List, drop, take, vec_len};
     ghost use Rattle.std.specs.Vec.{vec_capacity};
-    ghost use Rattle.desk_ports.specs.ReadAhead.{IsAhead};
+    ghost use Rattle.desk_ports.specs.Meanings.{IsAhead};
 
     ghost Value = { List ℕ };
 

@@ -7,7 +7,7 @@ ghost use Rattle.desk_ports.specs.declared.desk.Inlet.{Inlet};
 ghost use Rattle.desk_ports.specs.declared.desk.Outlet.{Outlet};
 ghost use Rattle.desk_ports.specs.Meanings.{Meanings, Counts, Moves, Adds, AddsFront, AreBelowLast, Fails, Keeps, Opens, Rose, faults, HasReadCause, HasWriteCause, left, made, outgoing};
 ghost use Rattle.desk_ports.specs.Courses.{Course, Ends, Finishes, Outputs, Work, bytes_for, owed, to_outlet};
-ghost use Rattle.desk_ports.specs.Writings.{Writes};
+ghost use Rattle.desk_ports.specs.Turns.{Writes};
 ghost use Rattle.desk_ports.specs.QuietState.{QuietState, quiet_meanings, quiet_counts};
 
 /// Two reads are one read of both pieces, and two writes are one write.

@@ -140,7 +140,7 @@ impl<'a> QuietDesk<'a> {
         }
     }
 
-    #[tactic(auto, using(crate::proofs::KeptInputs::kept_until))]
+    #[tactic(auto, using(crate::proofs::Desks::kept_until))]
     fn kept(&self, name: &str) -> &'a [u8]
         ensures { IfSome self.now.held (λ kept. result.now ≡ kept_at kept name.now) }
     {

@@ -4,7 +4,7 @@ ghost use Rattle.std.specs.Prelude.{◌<◌, ◌≤◌, ℕ, List, length, take,
 ghost use Rattle.std.specs.Io.KnownBytes.{IsAtEnd};
 ghost use Rattle.desk_ports.specs.Meanings.{Moves, IsReadyIn, IsReadyOut, HasReadCause, left};
 ghost use Rattle.desk_ports.specs.Courses.{to_outlet};
-ghost use Rattle.desk_ports.specs.Writings.{Writes};
+ghost use Rattle.desk_ports.specs.Turns.{Writes};
 
 use crate::desk::{Desk, Failed, Inlet, Outlet};
 

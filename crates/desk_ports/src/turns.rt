@@ -2,7 +2,7 @@
 
 ghost use Rattle.std.specs.Prelude.{◌≡◌, ◌<◌, ℕ, Bool, Ok};
 ghost use Rattle.desk_ports.specs.declared.desk.Outlet.{Outlet};
-ghost use Rattle.desk_ports.specs.Stop.{Stop};
+ghost use Rattle.desk_ports.specs.Meanings.{Stop};
 ghost use Rattle.desk_ports.specs.declared.turns.Turn.TheVariants as turn;
 ghost use Rattle.desk_ports.specs.Courses.{Work, AfterRun, HasCause, by_stop};
 ghost use Rattle.desk_ports.specs.Turns.{IsOwed, AreReady, AfterTurn};

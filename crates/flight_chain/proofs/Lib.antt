@@ -1,8 +1,2 @@
-pub mod RecordingWalks
 pub mod Recordings
-pub mod Histories
-pub mod GoodStores
-mod Readings
-mod CompressCourses
-mod Flights
-pub mod RecordTurns
+pub mod CompressCourses

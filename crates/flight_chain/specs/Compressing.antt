@@ -1,25 +1,44 @@
 -- What compressing a recording owes: the store of its history.
-use Rattle.std.specs.Prelude.{◌≡◌, ℕ, ◌+◌, ◌*◌, ◌%◌, ◌≤◌, Bool, true, false, List, [], ◌∷◌, ◌++◌, length, unwrap_or}
-use Rattle.bit_vectors.specs.Vectors.{IsVector}
+use Rattle.std.specs.List.{range_with_len}
+use Rattle.std.specs.Prelude.{ℕ, ◌%◌, ◌≤◌, List, length, map, ◌≡◌, ◌+◌, ◌*◌, Bool, true, false, [], ◌∷◌, ◌++◌, unwrap_or}
+use Rattle.bit_vectors.specs.Vectors.{IsPlaces, vector_bytes, IsVector}
+use Rattle.desk_ports.specs.Courses.{Course, Work, to_output, WalkWork, work_on}
+use Rattle.desk_ports.specs.Meanings.{Stop}
+use Rattle.desk_ports.specs.Meanings as stop
 use Rattle.desk_ports.specs.declared.desk.Outlet.{Outlet}
 use Rattle.desk_ports.specs.declared.desk.Outlet.TheVariants as outlet
-use Rattle.desk_ports.specs.Stop.{Stop}
-use Rattle.desk_ports.specs.Stop as stop
-use Rattle.desk_ports.specs.Courses.{Course, Work, to_output}
-use Rattle.desk_ports.specs.WalkWorks.{WalkWork, work_on}
 use Rattle.mask_update.specs.Histories.{History, history_of}
-use Rattle.side_tables.specs.declared.rows.RobustRow.{RobustRow}
 use Rattle.side_tables.specs.Rows.{ScheduleRows, flags_of, robust_of}
+use Rattle.side_tables.specs.declared.rows.RobustRow.{RobustRow}
+use Rattle.packet_store.specs.SpacePackets.{period, store_bytes, space_packet}
 use Rattle.packet_encode.specs.Encoder.{StandsFor}
-use Rattle.packet_encode.specs.Packets.{with_next_input}
-use Rattle.packet_store.specs.SpacePackets.{period, space_packet}
-use Rattle.flight_chain.specs.declared.compressing.Compressing.{Compressing}
-use Rattle.flight_chain.specs.declared.fault.RecordFault.{RecordFault}
-use Rattle.flight_chain.specs.declared.fault.FlightFault.{FlightFault}
-use Rattle.flight_chain.specs.declared.fault.RecordFault.TheVariants as record_fault
-use Rattle.flight_chain.specs.declared.fault.FlightFault.TheVariants.{CutRecord, SpareBit, TooMany, ReadFault, WriteFault}
+use Rattle.packet_encode.specs.Forms.{form_bits, form_at, with_next_input}
 use Rattle.flight_chain.specs.Recordings.{recording_walk, walk_over}
-use Rattle.flight_chain.specs.Stores.{IsStream, data_at, store_of}
+use Rattle.flight_chain.specs.declared.compressing.Compressing.{Compressing}
+use Rattle.flight_chain.specs.declared.fault.FlightFault.{FlightFault}
+use Rattle.flight_chain.specs.declared.fault.FlightFault.TheVariants.{CutRecord, SpareBit, TooMany, ReadFault, WriteFault}
+use Rattle.flight_chain.specs.declared.fault.RecordFault.{RecordFault}
+use Rattle.flight_chain.specs.declared.fault.RecordFault.TheVariants as record_fault
+
+-- ---- the store of a history
+
+-- a stream of packets: vectors of f places, on an APID that is not the idle one
+abbrev pub IsStream : ℕ → ℕ → Type 0
+IsStream f apid = IsPlaces f × (apid ≤ 2046)
+
+-- the bytes of the packet t
+abbrev pub data_at : History → ℕ → List ℕ
+data_at h t = vector_bytes (form_bits (form_at h t))
+
+-- its sequence count and its bytes
+abbrev pub numbered_data : History → ℕ → ℕ × List ℕ
+numbered_data h t = (t % period, data_at h t)
+
+-- the Space Packets of all its packets in order, with their numbers as sequence counts
+abbrev pub store_of : History → ℕ → List ℕ
+store_of h apid = store_bytes apid (map (numbered_data h) (range_with_len 0 (length h.steps)))
+
+-- ---- what compressing a recording owes: the store of its history
 
 -- a flight that has read nothing: the places of its vectors, the required robustness of packets to which the schedule gives
 -- none, the APID, the first mask, and the rows of the schedule

@@ -1,4 +1,3 @@
 pub mod Recordings
-pub mod Stores
 pub mod Reading
 pub mod Compressing

@@ -3,9 +3,8 @@
 ghost use Rattle.std.specs.Prelude.{◌≡◌, ◌+◌, ◌*◌, ◌-◌, ◌^◌, ◌<◌, Bool, List, [], ◌∷◌, ◌++◌, length, replicate, false, IfOk};
 ghost use Rattle.desk_ports.specs.Meanings.{IsReadyOut, HasWriteCause};
 ghost use Rattle.desk_ports.specs.Courses.{to_output};
-ghost use Rattle.desk_ports.specs.Writings.{Writes};
-ghost use Rattle.flight_chain.specs.Compressing.{Compression, IsCompression, next_packet};
-ghost use Rattle.flight_chain.specs.Stores.{IsStream};
+ghost use Rattle.desk_ports.specs.Turns.{Writes};
+ghost use Rattle.flight_chain.specs.Compressing.{Compression, IsCompression, next_packet, IsStream};
 ghost use Rattle.bit_vectors.specs.Vectors.{IsPlaces};
 ghost use Rattle.mask_update.specs.Histories.{no_steps};
 ghost use Rattle.packet_encode.specs.Encoder.{StandsFor};

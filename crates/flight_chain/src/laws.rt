@@ -9,8 +9,7 @@ ghost use Rattle.side_tables.specs.Rows.{flags_of, robust_of};
 ghost use Rattle.packet_store.specs.SpacePackets.{period, plain_packet, space_packet};
 ghost use Rattle.packet_store.specs.Walks.{walk};
 ghost use Rattle.flight_chain.specs.Recordings.{ending_at, recording_of, recording_walk, walked, input_first, stopped_at};
-ghost use Rattle.flight_chain.specs.Stores.{data_at, store_of};
-ghost use Rattle.flight_chain.specs.Compressing.{Compression, compress_course, history_by};
+ghost use Rattle.flight_chain.specs.Compressing.{data_at, store_of, Compression, compress_course, history_by};
 ghost use Rattle.flight_chain.specs.declared.fault.RecordFault.TheVariants.{CutRecord, SpareBit};
 
 /// A recording of inputs is whole, and its walk has these inputs.

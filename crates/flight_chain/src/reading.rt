@@ -3,8 +3,7 @@
 ghost use Rattle.std.specs.Prelude.{◌≡◌, ◌^◌, ◌≤◌, [], length, IfErr, OnErr};
 ghost use Rattle.std.specs.Io.KnownBytes.{IsAtEnd};
 ghost use Rattle.bit_vectors.specs.Vectors.{IsVector, byte_count};
-ghost use Rattle.desk_ports.specs.Meanings.{Moves, IsReadyIn, left};
-ghost use Rattle.desk_ports.specs.ReadAhead.{ReadsOn};
+ghost use Rattle.desk_ports.specs.Meanings.{Moves, IsReadyIn, left, ReadsOn};
 ghost use Rattle.desk_ports.specs.Courses.{HasCause, by_stop};
 ghost use Rattle.packet_store.specs.Answers.{IfGiven, OnEnd};
 ghost use Rattle.flight_chain.specs.Compressing.{stop_by};

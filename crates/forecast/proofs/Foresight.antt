@@ -1,17 +1,62 @@
--- What is sure is written, for each history that was foreseen; and what is written is sure if the levels are the required ones.
-use Rattle.std.proofs.Common.{◌≡◌, ℕ, zero, suc, ◌+◌, ◌-◌, ◌<◌, ◌≤◌, true, Bool, ◌⊎◌, List, length, Option, Some, None, inl, inr, sym, ap, ◌∙◌, subst, arith}
+-- What is sure: which masks and packets, for each history that was foreseen.
+use Rattle.std.proofs.Common.{◌≡◌, ℕ, ◌+◌, ◌==◌, nat_lt, ◌&&◌, ◌||◌, Bool, true, false, cond, Some, refl, add-one, arith, zero, suc, ◌-◌, ◌<◌, ◌≤◌, ◌⊎◌, List, length, Option, None, inl, inr, sym, ap, ◌∙◌, subst}
 use Rattle.std.proofs.lemmas.Bool.{cases_lt}
+use Rattle.std.proofs.lemmas.Grind.{common_steps}
 use Rattle.bit_vectors.specs.declared.flags.Flags.{Flags}
 use Rattle.mask_update.specs.Histories.{History, Step, flags_at, history_of, robust_at}
-use Rattle.mask_update.proofs.HistoriesOf.{length-history_of, step_at-history_of}
+use Rattle.mask_update.proofs.StepByStep.{length-history_of, step_at-history_of}
 use Rattle.robust_window.specs.Histories.{level_at}
 use Rattle.robust_window.proofs.OfHistories.{IsLevel-level_at}
-use Rattle.side_tables.specs.declared.rows.CopyRow.{CopyRow}
 use Rattle.side_tables.specs.Rows.{ScheduleRows, flags_of}
-use Rattle.packet_encode.specs.Deliveries.{IsReached, MaskKnownAt, WrittenAt, latest_mask_known, latest_written}
-use Rattle.packet_encode.proofs.Deliveries.{IsLatestOr, latest_mask-right, latest_written-right, reached_later}
-use Rattle.forecast.specs.Prospects.{Prospect, IsForeseen, IsMaskSure, IsSure, latest_mask_sure, latest_sure, prospect_of, robust_by}
-use Rattle.forecast.proofs.Sure.{latest_mask-right as mask_sure-right, latest_sure-right}
+use Rattle.side_tables.specs.declared.rows.CopyRow.{CopyRow}
+use Rattle.packet_encode.specs.Deliveries.{reaches, IsReached, MaskKnownAt, WrittenAt, latest_mask_known, latest_written}
+use Rattle.packet_encode.proofs.Deliveries.{IsLatestOr, latest-right, latest_by-suc, latest_mask-right, latest_written-right, reached_later}
+use Rattle.forecast.specs.Prospects.{Prospect, IsMaskSure, IsSure, fate_by, fate_of, is_mask_sure, is_mask_sure_from, is_sure, is_sure_from, latest_mask_sure, latest_sure, IsForeseen, prospect_of, robust_by}
+use Rattle.forecast.specs.Stretches.{same_fate}
+use Rattle.forecast.specs.declared.fate.Fate.TheVariants.{Sure}
+
+-- ---- which masks and packets are sure
+
+pub mask_sure-from : (p : Prospect) (t : ℕ) → is_mask_sure p t ≡ true → IsMaskSure p t
+mask_sure-from p t is = grind (arith, common_steps)
+
+pub mask_sure-to : (p : Prospect) (t : ℕ) → IsMaskSure p t → is_mask_sure p t ≡ true
+mask_sure-to p t sure = grind (arith, common_steps)
+
+pub sure-from : (p : Prospect) (t : ℕ) → is_sure p t ≡ true → IsSure p t
+sure-from p t is = grind (arith, common_steps, mask_sure-from p t)
+
+pub sure-to : (p : Prospect) (t : ℕ) → IsSure p t → is_sure p t ≡ true
+sure-to p t sure = grind (arith, common_steps, mask_sure-to p t)
+
+pub mask_sure-right : (p : Prospect) (t : ℕ) → IsLatestOr (IsMaskSure p) t (latest_mask_sure p t)
+mask_sure-right p = latest-right (is_mask_sure_from p) (IsMaskSure p) (mask_sure-from p) (mask_sure-to p)
+
+pub latest_sure-right : (p : Prospect) (t : ℕ) → IsLatestOr (IsSure p) t (latest_sure p t)
+latest_sure-right p = latest-right (is_sure_from p) (IsSure p) (sure-from p) (sure-to p)
+
+-- ---- one more packet
+
+pub latest_mask-next : (p : Prospect) (t : ℕ) → latest_mask_sure p (t + 1) ≡ cond (is_mask_sure p t) (Some t) (latest_mask_sure p t)
+latest_mask-next p t = rw add-one (latest_by-suc (is_mask_sure_from p) t)
+
+pub latest_sure-next : (p : Prospect) (t : ℕ) → latest_sure p (t + 1) ≡ cond (is_sure p t) (Some t) (latest_sure p t)
+latest_sure-next p t = rw add-one (latest_by-suc (is_sure_from p) t)
+
+-- ---- fates
+
+pub same_sure : (p : Prospect) (t : ℕ) → same_fate (fate_of p t) Sure ≡ is_sure p t
+same_sure p t = by_tests (p.copies t) (nat_lt 0 (p.copies t)) refl ((p.flags t).r || is_mask_sure p t && reaches (latest_sure p t) t (p.robust t))
+  where
+    by_tests : (copies : ℕ) (arrives : Bool) → nat_lt 0 copies ≡ arrives → (known : Bool) → same_fate (fate_by copies (arrives && known)) Sure ≡ (arrives && known)
+    by_tests copies false none known = let is : copies ≡ 0 = grind (arith, common_steps) in rw is refl
+    by_tests copies true some known = by_known known (let is : (copies == 0) ≡ false = grind (arith, common_steps) in is)
+      where
+        by_known : (known : Bool) → (copies == 0) ≡ false → same_fate (fate_by copies known) Sure ≡ known
+        by_known true is = rw is refl
+        by_known false is = rw is refl
+
+-- ---- what is sure is written, for each history that was foreseen; and what is written is sure if the levels are the required ones
 
 -- A latest packet here is at most the latest there, so what reaches it here reaches the latest one there, if it reaches as far.
 carried : (Here There : ℕ → Type 0) (t level wider : ℕ) (latest other : Option ℕ) → IsLatestOr Here t latest → IsLatestOr There t other

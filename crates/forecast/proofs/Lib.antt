@@ -1,4 +1,2 @@
-pub mod Sure
 pub mod Foresight
-pub mod Longest
-pub mod Rows
+pub mod Stretches

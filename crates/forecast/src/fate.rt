@@ -2,7 +2,7 @@
 
 ghost use Rattle.std.specs.Prelude.{◌≡◌};
 ghost use Rattle.forecast.specs.Stretches.{same_fate};
-ghost use Rattle.forecast.specs.Texts.{fate_text};
+ghost use Rattle.forecast.specs.Outlooks.{fate_text};
 
 /// What becomes of a packet.
 #[derive(Clone, Copy, Debug, PartialEq, Eq)]

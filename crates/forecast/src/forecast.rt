@@ -3,9 +3,8 @@
 ghost use Rattle.std.specs.Prelude.{◌≡◌, ◌≤◌, ◌++◌, length, IfOk};
 ghost use Rattle.desk_ports.specs.Meanings.{IsReadyOut};
 ghost use Rattle.desk_ports.specs.Courses.{to_output};
-ghost use Rattle.desk_ports.specs.Writings.{Writes};
-ghost use Rattle.forecast.specs.Outlooks.{IsPacketCount, foresees, row_of};
-ghost use Rattle.forecast.specs.Texts.{closing_rows, end_row, forecast_text, gaps_row, sure_count};
+ghost use Rattle.desk_ports.specs.Turns.{Writes};
+ghost use Rattle.forecast.specs.Outlooks.{IsPacketCount, foresees, row_of, closing_rows, end_row, forecast_text, gaps_row, sure_count};
 
 use crate::foreseen::Foresight;
 use crate::running::Running;

@@ -8,7 +8,7 @@ ghost use Rattle.side_tables.specs.Rows.{ScheduleRows, flags_of};
 ghost use Rattle.packet_encode.specs.Deliveries.{IsLatest, MaskKnownAt, WrittenAt, count_to_last};
 ghost use Rattle.forecast.specs.Prospects.{IsForeseen, IsMaskSure, IsSure, Prospect, is_mask_sure, is_sure, latest_mask_sure, latest_sure, prospect_of, robust_by};
 ghost use Rattle.forecast.specs.Stretches.{IsLongest, stretches};
-ghost use Rattle.forecast.specs.Texts.{forecast_text};
+ghost use Rattle.forecast.specs.Outlooks.{forecast_text};
 ghost use Rattle.forecast.specs.Worked.{worked_plan, worked_script};
 ghost use Rattle.forecast.specs.declared.fate.Fate.{Fate};
 ghost use Rattle.forecast.specs.declared.stretch.Stretch.{Stretch};

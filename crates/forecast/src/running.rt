@@ -3,8 +3,7 @@
 ghost use Rattle.std.specs.Prelude.{◌≡◌, ℕ, ◌+◌, ◌<◌};
 ghost use Rattle.loss_player.specs.Played.{played_of};
 ghost use Rattle.forecast.specs.Prospects.{fate_of};
-ghost use Rattle.forecast.specs.Outlooks.{ended_before, foresees, stretch_at};
-ghost use Rattle.forecast.specs.Texts.{sure_count};
+ghost use Rattle.forecast.specs.Outlooks.{ended_before, foresees, stretch_at, sure_count};
 
 use crate::fate::Fate;
 use crate::foreseen::Foresight;

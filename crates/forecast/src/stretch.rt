@@ -1,7 +1,7 @@
 //! Stretches of packets that have one fate, and their lines.
 
 ghost use Rattle.std.specs.Prelude.{◌≡◌};
-ghost use Rattle.forecast.specs.Texts.{stretch_row};
+ghost use Rattle.forecast.specs.Outlooks.{stretch_row};
 
 use crate::fate::Fate;
 use desk_ports::Row;

@@ -7,7 +7,7 @@ use Rattle.std.proofs.lemmas.List.{append_cancel_left, append_cancel_right, leng
 use Rattle.bit_vectors.specs.declared.fault.BitFault.{BitFault}
 use Rattle.bit_vectors.specs.declared.fault.BitFault.TheVariants.{Wrong, EndsEarly}
 use Rattle.bit_vectors.specs.Vectors.{bits_of}
-use Rattle.bit_vectors.proofs.ByteBits.{length-bits_of}
+use Rattle.bit_vectors.proofs.NumberBits.{length-bits_of}
 use Rattle.packet_decode.specs.declared.decoder.Reading.{Reading}
 use Rattle.packet_decode.specs.declared.decoder.Reading.TheVariants as answer
 use Rattle.packet_decode.specs.State.{IsState}
@@ -18,8 +18,7 @@ use Rattle.packet_decode.proofs.OneAnswer.{says_answer}
 use Rattle.packet_decode.proofs.ViableData.{viable_data, data_viable}
 use Rattle.ground_chain.specs.declared.verdict.Kind.{Kind}
 use Rattle.ground_chain.specs.declared.verdict.Kind.TheVariants.{Written, Repeat, Unsynced, Gap, Refused}
-use Rattle.ground_chain.specs.Numbers.{number_after}
-use Rattle.ground_chain.specs.Run.{Arrival, Known, Judged, nothing_known, answer_kind, judged_by, judge, known_from, known_after}
+use Rattle.ground_chain.specs.Run.{number_after, Arrival, Known, Judged, nothing_known, answer_kind, judged_by, judge, known_from, known_after}
 use Rattle.ground_chain.specs.Report.{number_row, own_row, kind_value}
 use Rattle.ground_chain.specs.Listing.{kind_text, kind_vectors, change_level, mask_line, packet_vectors}
 use Rattle.ground_chain.specs.Refusals.{is_taken_or_listed, BeginData, SaysLine, SaysRow}

@@ -4,20 +4,18 @@ use Rattle.std.specs.Prelude.{IfSome}
 use Rattle.std.specs.Option.{option_map}
 use Rattle.std.proofs.lemmas.Bool.{lt-ltb}
 use Rattle.bit_vectors.specs.Vectors.{bits_of}
-use Rattle.bit_vectors.proofs.ByteBits.{bits_of-vector_bytes}
+use Rattle.bit_vectors.proofs.NumberBits.{bits_of-vector_bytes}
 use Rattle.mask_update.specs.Histories.{History, IsValid, flags_at, input_at}
 use Rattle.mask_update.specs.Masks.{mask_at}
 use Rattle.robust_window.specs.Histories.{level_at}
-use Rattle.packet_encode.specs.Forms.{form_bits}
-use Rattle.packet_encode.specs.Packets.{form_at, packet_at}
+use Rattle.packet_encode.specs.Forms.{form_bits, form_at, packet_at}
 use Rattle.packet_encode.specs.Deliveries.{latest_by, reaches, is_mask_known, is_mask_known_from, is_written, is_written_from, latest_mask_known, latest_of_missing, latest_written}
 use Rattle.packet_encode.proofs.Deliveries.{latest_by-suc, latest_by-zero}
-use Rattle.packet_decode.specs.State.{KnownVector, IsState, known_if, next_part, next_state}
-use Rattle.packet_decode.specs.Histories.{is_content_told, is_mask_told, true_state}
+use Rattle.packet_decode.specs.State.{KnownVector, IsState, known_if, next_part, next_state, is_content_told, is_mask_told, true_state}
 use Rattle.packet_decode.specs.PacketReading.{answer_of, missed}
 use Rattle.packet_decode.proofs.OneAnswer.{opaque_read, spells_read}
 use Rattle.packet_decode.proofs.OfHistories.{answer-mask_alone, answer-neither, answer-written, told-spelled, true_state-is, untold-opaque}
-use Rattle.flight_chain.specs.Stores.{data_at}
+use Rattle.flight_chain.specs.Compressing.{data_at}
 use Rattle.ground_chain.specs.declared.verdict.Kind.{Kind}
 use Rattle.ground_chain.specs.declared.verdict.Kind.TheVariants.{Written, Unsynced, Gap}
 use Rattle.ground_chain.specs.Run.{answer_kind, state_read, state_after}

@@ -12,8 +12,7 @@ use Rattle.packet_decode.specs.Answers.{Says, IsSoundAnswer, IsExactAnswer}
 use Rattle.packet_decode.specs.PacketReading.{Outcome, Spelled, Opaque, Found, missed, parse_whole_packet, parsed_answer, answer_of}
 use Rattle.packet_decode.proofs.ExactAnswers.{answer_of-exact}
 use Rattle.packet_decode.proofs.OneAnswer.{next_state-is, spells_read, says_answer, one_answer, sound_reading}
-use Rattle.ground_chain.specs.Numbers.{number_after}
-use Rattle.ground_chain.specs.Run.{Arrival, Known, Judged, answer_kind, verdict_of, change_read, change_after, state_read, state_with, state_after, judge_as, judged_by, judge, run_from, run}
+use Rattle.ground_chain.specs.Run.{number_after, Arrival, Known, Judged, answer_kind, verdict_of, change_read, change_after, state_read, state_with, state_after, judge_as, judged_by, judge, run_from, run}
 use Rattle.ground_chain.specs.Sound.{IsFirstPart, IsChangeAfter, IsSpelled, IsStateAfter, IsJudgedBy, AreJudged, without_fault, but_for_faults}
 
 module _ (f : ℕ) (state : State) (t : ℕ) (has : IsState f state) where

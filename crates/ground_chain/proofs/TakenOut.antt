@@ -12,13 +12,11 @@ use Rattle.packet_decode.specs.PacketReading.{Outcome, Spelled, Opaque, Found, m
 use Rattle.packet_store.specs.SpacePackets.{period}
 use Rattle.ground_chain.specs.declared.verdict.Kind.{Kind}
 use Rattle.ground_chain.specs.declared.verdict.Kind.TheVariants.{Written, Repeat, Unsynced, Gap, Refused}
-use Rattle.ground_chain.specs.Numbers.{HasCount, number_after}
-use Rattle.ground_chain.specs.Run.{Arrival, Known, Judged, nothing_known, answer_kind, state_with, state_read, judge_as, judged_by, judge, run_from, run, known_from, known_after}
-use Rattle.ground_chain.specs.Report.{is_written_kind}
-use Rattle.ground_chain.specs.Told.{AreArrivals}
+use Rattle.ground_chain.specs.Run.{HasCount, number_after, Arrival, Known, Judged, nothing_known, answer_kind, state_with, state_read, judge_as, judged_by, judge, run_from, run, known_from, known_after}
+use Rattle.ground_chain.specs.Report.{is_written_kind, AreArrivals}
 use Rattle.ground_chain.specs.Refusals.{is_untold, IsWithinPeriod, IsNearNext, CanBeTakenOut}
-use Rattle.ground_chain.proofs.Distances.{number_after-above, number_after-count, number_after-least, number_after-repeat}
-use Rattle.ground_chain.proofs.Runs.{known_from-append, run_from-append}
+use Rattle.ground_chain.proofs.ListedRows.{number_after-above, number_after-count, number_after-least, number_after-repeat}
+use Rattle.ground_chain.proofs.EveryRun.{known_from-append, run_from-append}
 use Rattle.ground_chain.proofs.Told.{first_arrival, later_arrivals}
 
 -- ---- an arrival that is not written

@@ -8,11 +8,9 @@ use Rattle.bit_vectors.specs.declared.fault.BitFault.{BitFault}
 use Rattle.packet_store.specs.SpacePackets.{period}
 use Rattle.packet_decode.specs.declared.decoder.Reading.{Reading}
 use Rattle.packet_decode.specs.declared.decoder.Reading.TheVariants.{Written, Unsynced, Gap}
-use Rattle.ground_chain.specs.Numbers.{number_after, expected}
-use Rattle.ground_chain.specs.Run.{Arrival, Known, Judged, lost_from, answer_kind, verdict_of, judged_by, judge, run_from, known_from}
-use Rattle.ground_chain.specs.Report.{is_repeat}
-use Rattle.ground_chain.specs.Told.{AreArrivals, lost_numbers, numbers_of, run_numbers}
-use Rattle.ground_chain.proofs.Distances.{number_after-above}
+use Rattle.ground_chain.specs.Run.{number_after, expected, Arrival, Known, Judged, lost_from, answer_kind, verdict_of, judged_by, judge, run_from, known_from}
+use Rattle.ground_chain.specs.Report.{is_repeat, AreArrivals, lost_numbers, numbers_of, run_numbers}
+use Rattle.ground_chain.proofs.ListedRows.{number_after-above}
 
 -- ---- numbers of arrivals
 

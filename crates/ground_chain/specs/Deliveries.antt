@@ -10,9 +10,8 @@ use Rattle.desk_ports.specs.Meanings.{Meanings, left, made}
 use Rattle.mask_update.specs.Histories.{History, IsValid, input_at}
 use Rattle.packet_encode.specs.Deliveries.{Cause, Lost, Unsynced, Gap, arrivals, cause_at, listed_numbers, written_numbers}
 use Rattle.packet_store.specs.SpacePackets.{period}
-use Rattle.flight_chain.specs.Stores.{data_at, store_of}
-use Rattle.loss_player.specs.Gaps.{AreGapsShort}
-use Rattle.loss_player.specs.Played.{played_bytes}
+use Rattle.flight_chain.specs.Compressing.{data_at, store_of}
+use Rattle.loss_player.specs.Played.{AreGapsShort, played_bytes}
 use Rattle.ground_chain.specs.declared.restored.Restored.{Restored}
 use Rattle.ground_chain.specs.Run.{Arrival}
 use Rattle.ground_chain.specs.Report.{header_row, end_row}

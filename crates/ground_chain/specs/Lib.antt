@@ -1,12 +1,8 @@
-pub mod Numbers
 pub mod Run
 pub mod Sound
-pub mod Report
-pub mod Told
 pub mod Deliveries
 pub mod Reception
-pub mod Reckoning
-pub mod Accounts
+pub mod Report
 pub mod Restoring
 pub mod Receiving
 pub mod Listing

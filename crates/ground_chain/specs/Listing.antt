@@ -7,8 +7,7 @@ use Rattle.bit_vectors.specs.declared.fault.BitFault.TheVariants.{Wrong, EndsEar
 use Rattle.bit_vectors.specs.Vectors.{byte_count, vector_bytes}
 use Rattle.desk_ports.specs.Courses.{Course, Work, to_output}
 use Rattle.hex.specs.Hex.{encode_lower}
-use Rattle.packet_decode.specs.State.{KnownVector, State, Change}
-use Rattle.packet_decode.specs.Decoding.{Decoding, latest_content}
+use Rattle.packet_decode.specs.State.{KnownVector, State, Change, Decoding, latest_content}
 use Rattle.packet_store.specs.declared.fault.WalkFault.{WalkFault}
 use Rattle.packet_store.specs.Walks.{walk}
 use Rattle.ground_chain.specs.declared.listing.Listing.{Listing}
@@ -18,8 +17,7 @@ use Rattle.ground_chain.specs.declared.verdict.Kind.{Kind}
 use Rattle.ground_chain.specs.declared.verdict.Kind.TheVariants.{Written, Repeat, Unsynced, Gap, Refused}
 use Rattle.ground_chain.specs.declared.verdict.Verdict.{Verdict}
 use Rattle.ground_chain.specs.Run.{Judged}
-use Rattle.ground_chain.specs.Report.{number_row, own_row, restored_of}
-use Rattle.ground_chain.specs.Accounts.{Texts}
+use Rattle.ground_chain.specs.Report.{number_row, own_row, restored_of, Texts}
 use Rattle.ground_chain.specs.Restoring.{store_run, store_work}
 
 -- ---- an arrival

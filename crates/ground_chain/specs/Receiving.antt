@@ -1,7 +1,6 @@
 -- What is owed for the rest of a store, with an account of its arrivals.
 use Rattle.std.specs.Prelude.{◌≡◌, ℕ, ◌≤◌, IsTrue, List, Some, unwrap_or}
-use Rattle.desk_ports.specs.Courses.{Course, Work}
-use Rattle.desk_ports.specs.WalkWorks.{WalkWork, work_on}
+use Rattle.desk_ports.specs.Courses.{Course, Work, WalkWork, work_on}
 use Rattle.packet_store.specs.declared.fault.WalkFault.{WalkFault}
 use Rattle.packet_store.specs.Walks.{walk}
 use Rattle.packet_store.specs.SpacePackets.{Packet}
@@ -9,9 +8,8 @@ use Rattle.packet_store.specs.StoreReader.{opened, walk_over}
 use Rattle.ground_chain.specs.declared.restored.Restored.{Restored}
 use Rattle.ground_chain.specs.declared.receiving.Receiving.{Receiving}
 use Rattle.ground_chain.specs.Run.{Judged}
-use Rattle.ground_chain.specs.Report.{restored_of, added}
-use Rattle.ground_chain.specs.Reckoning.{nothing_judged, next_run}
-use Rattle.ground_chain.specs.Accounts.{Texts, all_parts}
+use Rattle.ground_chain.specs.Report.{restored_of, added, Texts, all_parts}
+use Rattle.ground_chain.specs.Reception.{nothing_judged, next_run}
 use Rattle.ground_chain.specs.Restoring.{RestorerState, arrivals_of, store_run}
 
 -- what a store owes an account: what is written of the arrivals before the end, the last part if the store is whole, and

@@ -11,8 +11,7 @@ use Rattle.packet_store.specs.SpacePackets.{period}
 use Rattle.ground_chain.specs.declared.verdict.Kind.{Kind}
 use Rattle.ground_chain.specs.declared.verdict.Kind.TheVariants.{Written, Repeat, Unsynced, Gap, Refused}
 use Rattle.ground_chain.specs.declared.verdict.Verdict.{Verdict}
-use Rattle.ground_chain.specs.Numbers.{number_after}
-use Rattle.ground_chain.specs.Run.{Arrival, Judged, judge, known_after, verdict_of}
+use Rattle.ground_chain.specs.Run.{number_after, Arrival, Judged, judge, known_after, verdict_of}
 use Rattle.ground_chain.specs.Report.{is_written_kind, number_row, own_row}
 use Rattle.ground_chain.specs.Reception.{Reception}
 use Rattle.ground_chain.specs.Listing.{cause_text, own_line}

@@ -1,17 +1,19 @@
--- What is written of a run: the restored packets and the report, and the numbers of the report's last row.
-use Rattle.std.specs.Prelude.{◌≡◌, ℕ, ◌+◌, ◌-◌, ◌*◌, ◌^◌, ◌<◌, ◌≤◌, IfSome, Bool, true, false, ◌||◌, if◌then◌else◌, List, [], ◌++◌, length, codes, Option, Some, None}
+-- What is written of a run: the restored packets and the report, what an account writes, and of which numbers the verdicts tell.
 use Rattle.std.specs.Fmt.{decimal}
-use Rattle.std.specs.List.{flat_map, count_by, sum_by}
+use Rattle.std.specs.List.{flat_map, count_by, sum_by, range_with_len}
 use Rattle.std.specs.Option.{option_map}
-use Rattle.bit_vectors.specs.declared.fault.BitFault.TheVariants.{Wrong, EndsEarly}
+use Rattle.std.specs.Prelude.{◌≡◌, ℕ, ◌+◌, ◌-◌, ◌*◌, ◌^◌, ◌<◌, ◌≤◌, IfSome, Bool, true, false, ◌||◌, if◌then◌else◌, List, [], ◌++◌, length, codes, Option, Some, None, ◌∷◌, All}
 use Rattle.bit_vectors.specs.Vectors.{vector_bytes}
+use Rattle.bit_vectors.specs.declared.fault.BitFault.TheVariants.{Wrong, EndsEarly}
+use Rattle.desk_ports.specs.Courses.{Outputs}
+use Rattle.packet_store.specs.SpacePackets.{period}
 use Rattle.packet_decode.specs.State.{KnownVector, State}
-use Rattle.ground_chain.specs.declared.verdict.Lost.{Lost}
+use Rattle.ground_chain.specs.Run.{Judged, Arrival}
+use Rattle.ground_chain.specs.declared.restored.Restored.{Restored}
 use Rattle.ground_chain.specs.declared.verdict.Kind.{Kind}
 use Rattle.ground_chain.specs.declared.verdict.Kind.TheVariants.{Written, Repeat, Unsynced, Gap, Refused}
+use Rattle.ground_chain.specs.declared.verdict.Lost.{Lost}
 use Rattle.ground_chain.specs.declared.verdict.Verdict.{Verdict}
-use Rattle.ground_chain.specs.declared.restored.Restored.{Restored}
-use Rattle.ground_chain.specs.Run.{Judged}
 
 -- ---- kinds of verdicts
 
@@ -166,3 +168,32 @@ end_row r = codes "end," ++ decimal r.packets ++ codes "," ++ decimal r.written 
 -- the report of a run
 abbrev pub run_report : List Judged → List ℕ
 run_report judged = header_row ++ run_rows judged ++ end_row (restored_of judged)
+
+-- ---- what an account writes of a run over arrivals
+
+-- what is written of each judged arrival, and finally of the numbers of the run
+pub record Texts : Type 0 where
+  pub parts : Judged → Outputs
+  pub last : Restored → Outputs
+
+-- what is written of a run, arrival by arrival
+abbrev pub all_parts : Texts → List Judged → Outputs
+all_parts texts judged = flat_map texts.parts judged
+
+-- ---- which numbers the verdicts of a run tell of
+
+-- the counts of arrivals are sequence counts
+abbrev pub AreArrivals : List Arrival → Type 0
+AreArrivals arrivals = All (λ a. a.count < period) arrivals
+
+abbrev pub lost_numbers : Option Lost → List ℕ
+lost_numbers None = []
+lost_numbers (Some lost) = range_with_len lost.first (lost.last - lost.first + 1)
+
+-- the numbers that a verdict tells of: the lost ones, and then its own if it is no repeat
+abbrev pub numbers_of : Verdict → List ℕ
+numbers_of verdict = lost_numbers verdict.lost ++ (if is_repeat verdict.kind then [] else verdict.t ∷ [])
+
+-- those of a run, in order
+abbrev pub run_numbers : List Judged → List ℕ
+run_numbers judged = flat_map (λ j. numbers_of j.verdict) judged

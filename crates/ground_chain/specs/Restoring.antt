@@ -10,8 +10,7 @@ use Rattle.packet_store.specs.Walks.{walk}
 use Rattle.ground_chain.specs.declared.reporting.Reporting.{Reporting}
 use Rattle.ground_chain.specs.declared.restored.Restored.{Restored}
 use Rattle.ground_chain.specs.Run.{Arrival, Judged, run}
-use Rattle.ground_chain.specs.Report.{header_row, verdict_rows, written_bytes, end_row, restored_of}
-use Rattle.ground_chain.specs.Accounts.{Texts, all_parts}
+use Rattle.ground_chain.specs.Report.{header_row, verdict_rows, written_bytes, end_row, restored_of, Texts, all_parts}
 
 abbrev pub arrival_of : Packet → Arrival
 arrival_of p = record { count = p.header.count; body = p.body }

@@ -1,18 +1,46 @@
--- The run over a list of arrivals: a verdict for each, and what is known after it.
-use Rattle.std.specs.Prelude.{ℕ, ◌-◌, ◌<◌, ◌≤◌, nat_lt, if◌then◌else◌, List, [], ◌∷◌, length, Bool, Option, Some, None, Result, Ok, Err, unwrap_or}
-use Rattle.bit_vectors.specs.declared.fault.BitFault.{BitFault}
+-- The run over a list of arrivals: their numbers, a verdict for each, and what is known after it.
+use Rattle.std.specs.Prelude.{◌≡◌, ℕ, ◌+◌, ◌-◌, ◌%◌, ◌==◌, if◌then◌else◌, Option, Some, None, ◌<◌, ◌≤◌, nat_lt, List, [], ◌∷◌, length, Bool, Result, Ok, Err, unwrap_or}
 use Rattle.bit_vectors.specs.Reading.{Parsed, Read, WrongBit, TooShort}
 use Rattle.bit_vectors.specs.Vectors.{bits_of}
+use Rattle.bit_vectors.specs.declared.fault.BitFault.{BitFault}
 use Rattle.packet_store.specs.SpacePackets.{period}
+use Rattle.packet_decode.specs.PacketReading.{Outcome, Spelled, Opaque, Found, parse_whole_packet, answer_of}
+use Rattle.packet_decode.specs.State.{State, Change, next_state, no_vectors}
 use Rattle.packet_decode.specs.declared.decoder.Reading.{Reading}
 use Rattle.packet_decode.specs.declared.decoder.Reading.TheVariants as answer
-use Rattle.packet_decode.specs.State.{State, Change, next_state, no_vectors}
-use Rattle.packet_decode.specs.PacketReading.{Outcome, Spelled, Opaque, Found, parse_whole_packet, answer_of}
-use Rattle.ground_chain.specs.declared.verdict.Lost.{Lost}
 use Rattle.ground_chain.specs.declared.verdict.Kind.{Kind}
 use Rattle.ground_chain.specs.declared.verdict.Kind.TheVariants.{Written, Repeat, Unsynced, Gap, Refused}
+use Rattle.ground_chain.specs.declared.verdict.Lost.{Lost}
 use Rattle.ground_chain.specs.declared.verdict.Verdict.{Verdict}
-use Rattle.ground_chain.specs.Numbers.{number_after, expected}
+
+-- ---- the numbers of packets that arrive, from their sequence counts
+
+-- the number t has this sequence count
+abbrev pub HasCount : ℕ → ℕ → Type 0
+HasCount t count = t % period ≡ count
+
+-- how far the next number with a count is above a number, 0 if that number has it
+abbrev pub distance : ℕ → ℕ → ℕ
+distance n count = (count + (period - n % period)) % period
+
+-- The number of an arrival with this count, after the latest number if there was one before: the first has its count
+-- as its number, and any other the least greater number with that count. None if the count is that of the latest
+-- number: the arrival is a repeat of it.
+abbrev pub number_after : Option ℕ → ℕ → Option ℕ
+number_after None count = Some count
+number_after (Some n) count = if distance n count == 0 then None else Some (n + distance n count)
+
+-- the latest number after one more arrival
+abbrev pub latest_after : Option ℕ → Option ℕ → Option ℕ
+latest_after latest None = latest
+latest_after latest (Some t) = Some t
+
+-- the number that comes next if nothing is lost
+abbrev pub expected : Option ℕ → ℕ
+expected None = 0
+expected (Some latest) = latest + 1
+
+-- ---- the run over a list of arrivals: a verdict for each, and what is known after it
 
 -- an arrival: the sequence count and the data bytes of a packet of the chosen APID
 pub record Arrival : Type 0 where

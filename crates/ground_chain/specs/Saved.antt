@@ -3,9 +3,8 @@ use Rattle.std.specs.Prelude.{◌≡◌, ℕ, ◌+◌, ◌<◌, ◌^◌, List, �
 use Rattle.state_bytes.specs.Parts.{number_bytes}
 use Rattle.packet_decode.specs.Saved.{IsDecoding, decoding_bytes, decoding_room}
 use Rattle.ground_chain.specs.declared.restored.Restored.{Restored}
-use Rattle.ground_chain.specs.Numbers.{expected}
-use Rattle.ground_chain.specs.Reception.{IsReception}
-use Rattle.ground_chain.specs.Reckoning.{IsWithinLimits, Reckoning}
+use Rattle.ground_chain.specs.Run.{expected}
+use Rattle.ground_chain.specs.Reception.{IsReception, IsWithinLimits, Reckoning}
 
 -- five numbers, and what follows
 abbrev pub counts_before : ℕ → Restored → List ℕ → List ℕ

@@ -12,8 +12,7 @@ use Rattle.packet_decode.specs.Spelling.{Spells}
 use Rattle.packet_decode.specs.Answers.{IsSoundAnswer, IsExactAnswer}
 use Rattle.ground_chain.specs.declared.verdict.Kind.{Kind}
 use Rattle.ground_chain.specs.declared.verdict.Kind.TheVariants as kind
-use Rattle.ground_chain.specs.Numbers.{number_after}
-use Rattle.ground_chain.specs.Run.{Arrival, Known, Judged, nothing_known, verdict_of, repeat_judged}
+use Rattle.ground_chain.specs.Run.{number_after, Arrival, Known, Judged, nothing_known, verdict_of, repeat_judged}
 
 -- which answers are right under a state, for the bits of the packet with the number t
 abbrev pub Rightness : Type 1

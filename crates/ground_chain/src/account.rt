@@ -3,9 +3,8 @@
 ghost use Rattle.std.specs.Prelude.{◌≡◌, ℕ, Bool};
 ghost use Rattle.desk_ports.specs.declared.desk.Outlet.{Outlet};
 ghost use Rattle.desk_ports.specs.Meanings.{HasWriteCause};
-ghost use Rattle.desk_ports.specs.Turns.{AreReady};
-ghost use Rattle.desk_ports.specs.Writings.{Writes};
-ghost use Rattle.ground_chain.specs.Accounts.{Texts};
+ghost use Rattle.desk_ports.specs.Turns.{AreReady, Writes};
+ghost use Rattle.ground_chain.specs.Report.{Texts};
 ghost use Rattle.ground_chain.specs.Reception.{AgreesWith};
 ghost use Rattle.ground_chain.specs.Run.{Judged};
 

@@ -1,8 +1,7 @@
 //! The arrivals, one after the other, with a verdict for each.
 
 ghost use Rattle.std.specs.Prelude.{◌≡◌, ◌+◌, ◌^◌, ◌<◌, ◌≤◌, ◌↔◌, ◌∷◌, ◌++◌, [], List, true, false, None, IfSome, IfOk};
-ghost use Rattle.ground_chain.specs.Numbers.{expected, number_after};
-ghost use Rattle.ground_chain.specs.Run.{Arrival, IsArrival, answer_kind, lost_from};
+ghost use Rattle.ground_chain.specs.Run.{expected, number_after, Arrival, IsArrival, answer_kind, lost_from};
 ghost use Rattle.ground_chain.specs.Refusals.{IsExactVerdict};
 ghost use Rattle.ground_chain.specs.Report.{is_told, tells_mask_alone};
 ghost use Rattle.ground_chain.specs.Reception.{AreLost, HasDecoded, HasMasked, AgreesWith, IsReception, Reception, StandsFor, known_of, next_judged, nothing_arrived};

@@ -4,11 +4,10 @@ ghost use Rattle.std.specs.Prelude.{◌≡◌, ◌<◌, ◌≤◌, ◌^◌, ◌�
 ghost use Rattle.std.specs.List.{flat_map, last_or};
 ghost use Rattle.mask_update.specs.Histories.{History, IsValid};
 ghost use Rattle.packet_encode.specs.Deliveries.{Lost, arrivals, count_up_to, latest_mask_known, latest_written, listed_numbers};
-ghost use Rattle.packet_decode.specs.Histories.{true_state};
+ghost use Rattle.packet_decode.specs.State.{true_state};
 ghost use Rattle.packet_store.specs.Walks.{walk};
-ghost use Rattle.flight_chain.specs.Stores.{store_of};
-ghost use Rattle.loss_player.specs.Gaps.{AreGapsShort};
-ghost use Rattle.loss_player.specs.Played.{played_bytes};
+ghost use Rattle.flight_chain.specs.Compressing.{store_of};
+ghost use Rattle.loss_player.specs.Played.{AreGapsShort, played_bytes};
 ghost use Rattle.desk_ports.specs.Courses.{owed, texts_of};
 ghost use Rattle.ground_chain.specs.Restoring.{arrivals_of, restore_course, store_run};
 ghost use Rattle.ground_chain.specs.Run.{known_after, run};

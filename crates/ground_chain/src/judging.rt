@@ -1,10 +1,8 @@
 //! Arrivals that are judged, and what an account writes of them.
 
 ghost use Rattle.std.specs.Prelude.{◌≡◌, IfOk};
-ghost use Rattle.desk_ports.specs.Turns.{AreReady};
-ghost use Rattle.desk_ports.specs.Writings.{Writes};
-ghost use Rattle.ground_chain.specs.Reception.{next_judged};
-ghost use Rattle.ground_chain.specs.Reckoning.{IsNextArrival, Judges, nothing_judged};
+ghost use Rattle.desk_ports.specs.Turns.{AreReady, Writes};
+ghost use Rattle.ground_chain.specs.Reception.{next_judged, IsNextArrival, Judges, nothing_judged};
 ghost use Rattle.bit_vectors.specs.Vectors.{IsPlaces};
 
 use crate::account::Account;
@@ -23,7 +21,7 @@ pub struct Judging<A: Account> {
 }
 
 impl<A: Account> Model for Judging<A> {
-    ghost use Rattle.ground_chain.specs.Reckoning.{Reckoning};
+    ghost use Rattle.ground_chain.specs.Reception.{Reckoning};
 
     ghost Value = { Reckoning };
 

@@ -4,17 +4,15 @@ ghost use Rattle.std.specs.Prelude.{◌≡◌, ◌^◌, ◌<◌, ◌≤◌, ◌�
 ghost use Rattle.std.specs.List.{range_with_len};
 ghost use Rattle.bit_vectors.specs.Vectors.{byte_count};
 ghost use Rattle.packet_store.specs.SpacePackets.{period};
-ghost use Rattle.ground_chain.specs.Numbers.{HasCount, number_after, expected};
-ghost use Rattle.ground_chain.specs.Run.{Arrival, Judged, judge, known_after, repeat_judged, run, run_from};
+ghost use Rattle.ground_chain.specs.Run.{HasCount, number_after, expected, Arrival, Judged, judge, known_after, repeat_judged, run, run_from};
 ghost use Rattle.ground_chain.specs.Listing.{IsToldAlike, listed_texts, listing_course, run_listing};
 ghost use Rattle.ground_chain.specs.Receiving.{store_course};
-ghost use Rattle.ground_chain.specs.Report.{HasContent, HasRowNumbers, header_row, is_repeat, is_unwritten, own_row, restored_of, run_bytes, run_report, run_rows, written_bytes};
+ghost use Rattle.ground_chain.specs.Report.{HasContent, HasRowNumbers, header_row, is_repeat, is_unwritten, own_row, restored_of, run_bytes, run_report, run_rows, written_bytes, AreArrivals, run_numbers};
 ghost use Rattle.ground_chain.specs.Sound.{IsExactRun, IsSoundRun, but_for_faults};
 ghost use Rattle.ground_chain.specs.Restoring.{restore_course, restored_texts, store_run};
 ghost use Rattle.ground_chain.specs.Worked.{arrival, written_verdict};
 ghost use Rattle.desk_ports.specs.Courses.{AreFronts, written_first, owed, texts_of, to_output, to_report};
 ghost use Rattle.packet_store.specs.Walks.{walk};
-ghost use Rattle.ground_chain.specs.Told.{AreArrivals, run_numbers};
 
 use crate::verdict::Kind;
 use bit_vectors::BitFault;

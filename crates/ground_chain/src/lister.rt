@@ -8,9 +8,8 @@ ghost use Rattle.mask_update.specs.Histories.{History};
 ghost use Rattle.packet_encode.specs.Deliveries.{arrivals};
 ghost use Rattle.ground_chain.specs.Deliveries.{IsPlayed};
 ghost use Rattle.ground_chain.specs.Listing.{listing_work};
-ghost use Rattle.packet_store.specs.Faults.{stop_by};
-ghost use Rattle.flight_chain.specs.Compressing.{is_main};
-ghost use Rattle.flight_chain.specs.Stores.{IsStream};
+ghost use Rattle.packet_store.specs.StoreReader.{stop_by};
+ghost use Rattle.flight_chain.specs.Compressing.{is_main, IsStream};
 
 use crate::RestoreFault;
 use crate::listing::Listing;

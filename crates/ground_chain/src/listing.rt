@@ -3,7 +3,7 @@
 ghost use Rattle.std.specs.Prelude.{◌≡◌, ◌++◌, length, IfOk};
 ghost use Rattle.desk_ports.specs.Meanings.{IsReadyOut};
 ghost use Rattle.desk_ports.specs.Courses.{to_output};
-ghost use Rattle.desk_ports.specs.Writings.{Writes};
+ghost use Rattle.desk_ports.specs.Turns.{Writes};
 ghost use Rattle.ground_chain.specs.Listing.{known_with, latest_vectors, mask_text, shown_vectors, vector_digits};
 ghost use Rattle.bit_vectors.specs.Vectors.{IsPlaces};
 

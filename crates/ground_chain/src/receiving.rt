@@ -1,7 +1,7 @@
 //! A store that is being received, packet by packet, with an account of its arrivals.
 
 ghost use Rattle.std.specs.Prelude.{◌≡◌, ◌-◌, ◌^◌, IfOk};
-ghost use Rattle.flight_chain.specs.Stores.{IsStream};
+ghost use Rattle.flight_chain.specs.Compressing.{IsStream};
 
 use crate::RestoreFault;
 use crate::account::Account;
@@ -26,7 +26,7 @@ impl<A: Account> Run for Receiving<A> {
 
     type Data = WalkFault;
 
-    ghost use Rattle.packet_store.specs.Faults.{stop_by};
+    ghost use Rattle.packet_store.specs.StoreReader.{stop_by};
     ghost use Rattle.ground_chain.specs.Receiving.{Owes};
 
     ghost owes = { Owes A.texts };

@@ -8,11 +8,10 @@ ghost use Rattle.packet_decode.specs.Answers.{IsExactAnswer};
 ghost use Rattle.packet_store.specs.Walks.{walk};
 ghost use Rattle.ground_chain.specs.Listing.{listing_course, run_listing};
 ghost use Rattle.ground_chain.specs.Refusals.{BeginData, CanBeTakenOut, SaysLine, SaysRow, run_written};
-ghost use Rattle.ground_chain.specs.Report.{run_bytes, run_report};
+ghost use Rattle.ground_chain.specs.Report.{run_bytes, run_report, AreArrivals};
 ghost use Rattle.ground_chain.specs.Restoring.{arrivals_of, restore_course, store_run};
 ghost use Rattle.ground_chain.specs.Run.{Arrival, Judged, Known, judge, known_after, run};
 ghost use Rattle.ground_chain.specs.Sound.{IsExactRun, IsJudged};
-ghost use Rattle.ground_chain.specs.Told.{AreArrivals};
 ghost use Rattle.ground_chain.specs.Worked.{arrival, worked_arrival, unmasked};
 
 /// `Ground::arrive`, `restore` and `show` are those of the exact run, whose answers are exact by the definition over

@@ -4,8 +4,8 @@ ghost use Rattle.std.specs.Prelude.{◌≡◌, true, length, IfOk};
 ghost use Rattle.bit_vectors.specs.Vectors.{IsPlaces, byte_count, vector_bytes};
 ghost use Rattle.desk_ports.specs.Meanings.{IsReadyOut};
 ghost use Rattle.desk_ports.specs.Courses.{to_output, to_report};
-ghost use Rattle.desk_ports.specs.Writings.{Writes};
-ghost use Rattle.packet_decode.specs.Decoding.{latest_content};
+ghost use Rattle.desk_ports.specs.Turns.{Writes};
+ghost use Rattle.packet_decode.specs.State.{latest_content};
 ghost use Rattle.ground_chain.specs.Report.{verdict_rows};
 
 use crate::account::Account;

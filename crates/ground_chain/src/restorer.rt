@@ -7,10 +7,10 @@ ghost use Rattle.desk_ports.specs.Courses.{AfterRun, HasCause, by_stop};
 ghost use Rattle.mask_update.specs.Histories.{History};
 ghost use Rattle.packet_encode.specs.Deliveries.{arrivals};
 ghost use Rattle.ground_chain.specs.Deliveries.{IsDelivered, IsPlayed};
-ghost use Rattle.packet_store.specs.Faults.{stop_by};
+ghost use Rattle.packet_store.specs.StoreReader.{stop_by};
 ghost use Rattle.ground_chain.specs.Receiving.{IsUnread, receiving_state};
 ghost use Rattle.ground_chain.specs.Restoring.{restore_work};
-ghost use Rattle.flight_chain.specs.Stores.{IsStream};
+ghost use Rattle.flight_chain.specs.Compressing.{IsStream};
 
 use crate::RestoreFault;
 use crate::receiving::Receiving;

@@ -3,7 +3,7 @@
 ghost use Rattle.std.specs.Prelude.{◌≡◌, ◌↔◌, ℕ, ◌+◌, ◌*◌, ◌<◌, ◌≤◌, ◌^◌, List, length, None, Some, IsTrue, IfSome};
 ghost use Rattle.state_bytes.specs.Parts.{Puts};
 ghost use Rattle.ground_chain.specs.declared.restored.Restored.{Restored as Counts};
-ghost use Rattle.ground_chain.specs.Numbers.{expected};
+ghost use Rattle.ground_chain.specs.Run.{expected};
 ghost use Rattle.ground_chain.specs.Report.{IsRestored};
 ghost use Rattle.ground_chain.specs.Saved.{AreFitting, counts_before, counts_bytes};
 

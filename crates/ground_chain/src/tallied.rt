@@ -2,8 +2,7 @@
 
 ghost use Rattle.std.specs.Prelude.{◌≡◌, ◌↔◌, ℕ, ◌+◌, ◌≤◌, ◌∷◌, ◌++◌, [], List, length, IfOk, IsTrue};
 ghost use Rattle.ground_chain.specs.Run.{Arrival};
-ghost use Rattle.ground_chain.specs.Reception.{AgreesWith, next_judged};
-ghost use Rattle.ground_chain.specs.Reckoning.{HasJudged, IsNextArrival, Judges, Reckoning, nothing_judged};
+ghost use Rattle.ground_chain.specs.Reception.{AgreesWith, next_judged, HasJudged, IsNextArrival, Judges, Reckoning, nothing_judged};
 ghost use Rattle.ground_chain.specs.Saved.{AreOfReckoning, IsReckoning, reckoning_bytes, reckoning_room};
 ghost use Rattle.state_bytes.specs.Parts.{Puts};
 ghost use Rattle.bit_vectors.specs.Vectors.{IsPlaces};
@@ -25,7 +24,7 @@ pub struct Tallied {
 }
 
 impl Model for Tallied {
-    ghost use Rattle.ground_chain.specs.Reckoning.{IsWithinLimits, Reckoning};
+    ghost use Rattle.ground_chain.specs.Reception.{IsWithinLimits, Reckoning};
 
     ghost Value = { Reckoning };
 

@@ -1,7 +1,7 @@
 //! The numbers of arrivals, from their sequence counts.
 
 ghost use Rattle.std.specs.Prelude.{◌≡◌, ◌+◌, ◌<◌, ◌≤◌, ◌^◌, None, IfSome};
-ghost use Rattle.ground_chain.specs.Numbers.{number_after, latest_after, expected};
+ghost use Rattle.ground_chain.specs.Run.{number_after, latest_after, expected};
 
 use packet_store::PERIOD;
 use std::marker::Model;

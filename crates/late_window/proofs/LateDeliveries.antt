@@ -1,26 +1,46 @@
--- Packets of a history that come late: their numbers, and that in order they are the arrivals of the history.
-use Rattle.std.proofs.Common.{◌≡◌, ℕ, zero, suc, ◌+◌, ◌*◌, ◌%◌, ◌<◌, ◌≤◌, ◌⊎◌, inl, inr, max, ltb, eqb, Bool, true, false, cond, List, [], ◌∷◌, ◌++◌, length, map, replicate, All, Option, Some, None, refl, sym, ap, ◌∙◌, subst, append_assoc, append-nil, arith}
-use Rattle.std.specs.Prelude.{Contains}
+-- Packets of a history that come late: their numbers, and that all are kept which come no later than the window allows.
 use Rattle.std.specs.List.{count_by, flat_map, range_with_len}
-use Rattle.std.proofs.lemmas.Bool.{cases_lt, eq-eqb, eqb-true, eqb-false, ltb-true, ltb-false, ne_eqb}
+use Rattle.std.specs.Prelude.{Contains}
+use Rattle.std.proofs.Common.{◌≡◌, ℕ, Some, arith, ◌≤◌, Bool, if◌then◌else◌, List, [], ◌∷◌, ◌++◌, refl, sym, ap, ◌∙◌, subst, append_assoc, append-nil, zero, suc, ◌+◌, ◌*◌, ◌%◌, ◌<◌, ◌⊎◌, inl, inr, max, ltb, eqb, true, false, cond, length, map, replicate, All, Option, None}
+use Rattle.std.proofs.lemmas.Bool.{le-ltb, cases_lt, eq-eqb, eqb-true, eqb-false, ltb-true, ltb-false, ne_eqb}
+use Rattle.std.proofs.lemmas.Grind.{common_steps}
 use Rattle.std.proofs.lemmas.List.{map-append}
 use Rattle.std.proofs.lemmas.List.Concat.{flat_map-cons}
-use Rattle.std.proofs.lemmas.List.Elements.{All-cons, All-head, All-nil, All-push, All-tail, All-weaker, Contains-append_left, Contains-push}
+use Rattle.std.proofs.lemmas.List.Elements.{All-cons, All-head, All-nil, All-push, All-tail, All-weaker, Contains-append_left, Contains-push, All-contains}
 use Rattle.std.proofs.lemmas.List.Folds.{sum_by-replicate}
 use Rattle.std.proofs.lemmas.List.Sums.{sum_by-append, sum_by-cons}
 use Rattle.std.proofs.lemmas.Simd.{map-map}
 use Rattle.mask_update.specs.Histories.{History}
-use Rattle.packet_encode.specs.Deliveries.{arrivals}
 use Rattle.packet_store.specs.SpacePackets.{period}
-use Rattle.flight_chain.specs.Stores.{data_at}
+use Rattle.packet_encode.specs.Deliveries.{arrivals}
+use Rattle.flight_chain.specs.Compressing.{data_at}
+use Rattle.loss_player.specs.Played.{AreGapsShort, AreNext, IsFirst}
 use Rattle.ground_chain.specs.Deliveries.{arrival_at}
-use Rattle.late_window.specs.Numbers.{IsAround, Numbered, highest_with, near_number, numbered, numbered_from}
-use Rattle.late_window.specs.Order.{arrival_of, count_above, in_order, kept, kept_from, late_count, ordered, sorted, with_number}
-use Rattle.late_window.specs.Lines.{AreFrom, AreRising}
 use Rattle.late_window.specs.Deliveries.{IsGreatest, IsLateDelivery, IsNearNext}
-use Rattle.late_window.proofs.Nearest.{near-only}
+use Rattle.late_window.specs.Lines.{AreFrom, AreRising}
+use Rattle.late_window.specs.Order.{IsNear, near_number, Numbered, AreWithinWindow, count_above, kept, kept_from, IsAround, highest_with, numbered, numbered_from, arrival_of, in_order, late_count, ordered, sorted, with_number}
 use Rattle.late_window.proofs.Sortings.{first_if, sorted-only}
-use Rattle.late_window.proofs.Within.{kept-one}
+
+-- ---- the number near another one that has a sequence count is the only one
+
+pub near-only : (n count t : ℕ) → IsNear n count t → near_number (Some n) count ≡ t
+near-only n count t near = grind (arith, common_steps)
+
+-- ---- arrivals that come no later than the window allows are all kept
+
+-- one that comes no later is kept
+pub kept-one : (window : ℕ) (before later : List Numbered) (a : Numbered) → count_above a.number before ≤ window → kept_from window before (a ∷ later) ≡ kept_from window (before ++ a ∷ []) later
+kept-one window before later a few = ap (λ (late : Bool). kept_from window (if late then before else before ++ a ∷ []) later) (le-ltb window (count_above a.number before) few)
+
+kept_from-within : (window : ℕ) (before arrivals : List Numbered) → AreWithinWindow window (before ++ arrivals) → kept_from window before arrivals ≡ before ++ arrivals
+kept_from-within window before [] within = sym (append-nil before)
+kept_from-within window before (a ∷ arrivals) within =
+    let more = subst (AreWithinWindow window) (sym (append_assoc before (a ∷ []) arrivals)) within in
+    kept-one window before arrivals a (within before arrivals a refl)
+    ∙ (kept_from-within window (before ++ a ∷ []) arrivals more ∙ append_assoc before (a ∷ []) arrivals)
+
+pub kept-within : (window : ℕ) (arrivals : List Numbered) → AreWithinWindow window arrivals → kept window arrivals ≡ arrivals
+kept-within window arrivals within = kept_from-within window [] arrivals within
 
 -- ---- how often a number is among others
 
@@ -240,3 +260,87 @@ module _ {window n : ℕ} {copies : ℕ → ℕ} {numbers : List ℕ} (h : Histo
       ap (λ (l : List Numbered). map arrival_of (in_order window l)) numbered-delivery
       ∙ (ap (λ (l : List Numbered). map arrival_of (sorted l)) kept-delivery
       ∙ (ap (map arrival_of) (sym sorted-delivery) ∙ map-map arrival_of (numbered_packet h) (arrivals copies n)))
+
+-- ---- packets that come near the greatest number before them have gaps that are shorter than the period of the sequence counts
+
+-- the first number that is not below this one, and those before it
+record IsFirstFrom (numbers : List ℕ) (t : ℕ) : Type 0 where
+  front : List ℕ
+  later : List ℕ
+  number : ℕ
+  split : numbers ≡ front ++ number ∷ later
+  below : All (λ s. s < t) front
+  from : t ≤ number
+
+first-by : (front later numbers : List ℕ) (t u : ℕ) → numbers ≡ front ++ u ∷ later → All (λ s. s < t) front → (u < t) ⊎ (t ≤ u) → (u < t → IsFirstFrom numbers t) → IsFirstFrom numbers t
+first-by front later numbers t u split below (inl lt) more = more lt
+first-by front later numbers t u split below (inr le) more = record { front = front; later = later; number = u; split = split; below = below; from = le }
+
+first-from : (later front numbers : List ℕ) (t : ℕ) → numbers ≡ front ++ later → All (λ s. s < t) front → 1 ≤ count_of t numbers → IsFirstFrom numbers t
+first-from [] front numbers t split below some =
+    let none : count_of t numbers ≡ 0 = ap (count_of t) (split ∙ append-nil front) ∙ count-above_all t front below in
+    absurd (omega (arith, none, some))
+first-from (u ∷ later) front numbers t split below some =
+    first-by front later numbers t u split below (cases_lt u t) (λ lt.
+    first-from later (front ++ u ∷ []) numbers t (split ∙ sym (append_assoc front (u ∷ []) later)) (All-push (λ s. s < t) front u below lt) some)
+
+-- a list of numbers has a greatest one, if it has one at all
+record IsHighestOf (numbers : List ℕ) : Type 0 where
+  highest : Option ℕ
+  has : HasHighest numbers highest
+
+highest-from : (later front : List ℕ) (highest : Option ℕ) → HasHighest front highest → IsHighestOf (front ++ later)
+highest-from [] front highest has = subst IsHighestOf (sym (append-nil front)) (record { highest = highest; has = has })
+highest-from (t ∷ later) front highest has =
+    subst IsHighestOf (append_assoc front (t ∷ []) later) (highest-from later (front ++ t ∷ []) (highest_with highest t) (highest-next front t highest has))
+
+highest-of : (numbers : List ℕ) → IsHighestOf numbers
+highest-of numbers = highest-from numbers [] None refl
+
+-- A number that arrives is below the period, or less than half a period above a smaller one that arrives.
+record IsAboveArrival (copies : ℕ → ℕ) (t : ℕ) : Type 0 where
+  earlier : ℕ
+  arrives : 1 ≤ copies earlier
+  below : earlier < t
+  near : t ≤ earlier + 8191
+
+module _ {window n : ℕ} {copies : ℕ → ℕ} {numbers : List ℕ} (is : IsLateDelivery window n copies numbers) where
+  arrives-in : (g : ℕ) → Contains numbers g → 1 ≤ copies g
+  arrives-in g among = omega (arith, count-contained g numbers among, is.copied g (All-contains (λ t. t < n) numbers g is.known among))
+
+  above-by : (t : ℕ) (first : IsFirstFrom numbers t) (highest : Option ℕ) → HasHighest first.front highest → (t < period) ⊎ IsAboveArrival copies t
+  above-by t first None has = inl (let near = is.near first.front first.later first.number first.split in let lt = near.first has in omega (arith, lt, first.from))
+  above-by t first (Some g) has =
+      let near = is.near first.front first.later first.number first.split in
+      let most = near.above g has in
+      let among = subst (λ (l : List ℕ). Contains l g) (sym first.split) (Contains-append_left first.front (first.number ∷ first.later) g has.among) in
+      inr (record {
+        earlier = g;
+        arrives = arrives-in g among;
+        below = All-contains (λ s. s < t) first.front g first.below has.among;
+        near = omega (arith, most, first.from);
+      })
+
+  above-one : (t : ℕ) → t < n → 1 ≤ copies t → (t < period) ⊎ IsAboveArrival copies t
+  above-one t lt some =
+      let first = first-from numbers [] numbers t refl (All-nil (λ s. s < t)) (omega (arith, some, is.copied t lt)) in
+      let highest = highest-of first.front in
+      above-by t first highest.highest highest.has
+
+  first-below : (t : ℕ) → IsFirst copies t → (t < period) ⊎ IsAboveArrival copies t → t < period
+  first-below t first (inl lt) = lt
+  first-below t first (inr above) = absurd (omega (arith, above.arrives, first.none above.earlier above.below (omega arith)))
+
+  next-by : (s t g : ℕ) → AreNext copies s t → 1 ≤ copies g → g < t → t ≤ g + 8191 → (s < g) ⊎ (g ≤ s) → t < s + period
+  next-by s t g next some below near (inl lt) = absurd (omega (arith, some, next.none g below (omega (arith, lt))))
+  next-by s t g next some below near (inr le) = omega (arith, near, le)
+
+  next-below : (s t : ℕ) → AreNext copies s t → (t < period) ⊎ IsAboveArrival copies t → t < s + period
+  next-below s t next (inl lt) = omega (arith, lt)
+  next-below s t next (inr above) = next-by s t above.earlier next above.arrives above.below above.near (cases_lt s above.earlier)
+
+  pub short-gaps : AreGapsShort copies n
+  short-gaps = record {
+    first = λ t lt first. first-below t first (above-one t lt first.arrives);
+    between = λ s t lt next. next-below s t next (above-one t lt next.later);
+  }

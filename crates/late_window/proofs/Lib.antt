@@ -1,14 +1,5 @@
-pub mod Placing
-pub mod Judgings
-pub mod Held
-pub mod Ends
-pub mod Lefts
-pub mod Rests
 pub mod Orders
-pub mod Wholes
+pub mod Rests
 pub mod Sortings
-pub mod Within
-pub mod Nearest
 pub mod LateDeliveries
-pub mod ShortGaps
-pub mod Delivered
+pub mod Held

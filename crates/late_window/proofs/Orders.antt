@@ -5,10 +5,9 @@ use Rattle.std.specs.List.{count_by}
 use Rattle.std.proofs.lemmas.Bool.{ltb-true, ltb-false, lt-ltb, le-ltb}
 use Rattle.std.proofs.lemmas.List.{take_at, drop_at}
 use Rattle.std.proofs.lemmas.List.Sums.{count_by-le-length, sum_by-append, sum_by-cons}
-use Rattle.late_window.specs.Numbers.{Numbered}
-use Rattle.late_window.specs.Order.{count_above, in_order, is_too_late, kept, kept_from, kept_with, late_count, placed, sorted, sorted_from}
+use Rattle.late_window.specs.Order.{Numbered, count_above, in_order, is_too_late, kept, kept_from, kept_with, late_count, placed, sorted, sorted_from}
 use Rattle.late_window.specs.Lines.{AreFrom, AreRising, Line, empty_line, given_from, gives, holding, is_below, late_from, line_after, next_line, passed_over, taken_in, without_first}
-use Rattle.late_window.proofs.Placing.{AreFrom-placed, AreRising-placed, AreUpTo, AreUpTo-more, length-placed, placed-after, placed_by}
+use Rattle.late_window.proofs.Sortings.{AreFrom-placed, AreRising-placed, AreUpTo, AreUpTo-more, length-placed, placed-after, placed_by}
 
 -- ---- one list of arrivals and then another
 

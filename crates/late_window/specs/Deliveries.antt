@@ -9,7 +9,7 @@ use Rattle.mask_update.specs.Histories.{History, IsValid}
 use Rattle.packet_store.specs.SpacePackets.{period}
 use Rattle.ground_chain.specs.Deliveries.{arrival_at, delivered_numbers, report_text, restored_bytes}
 use Rattle.late_window.specs.declared.done.LateDone.{LateDone}
-use Rattle.late_window.specs.Rows.{late_row}
+use Rattle.late_window.specs.Order.{late_row}
 use Rattle.late_window.specs.Restoring.{store_arrivals}
 
 -- the number is one of these, and none is greater

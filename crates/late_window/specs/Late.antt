@@ -2,19 +2,14 @@
 use Rattle.std.specs.Prelude.{◌≡◌, ℕ, ◌+◌, ◌*◌, ◌≤◌, List, [], ◌++◌, length, drop, map, None}
 use Rattle.desk_ports.specs.Courses.{Outputs, to_report}
 use Rattle.packet_store.specs.SpacePackets.{period}
-use Rattle.ground_chain.specs.Numbers.{expected}
-use Rattle.ground_chain.specs.Run.{Arrival, Judged, known_from}
-use Rattle.ground_chain.specs.Report.{added, end_row, restored_of}
-use Rattle.ground_chain.specs.Reception.{known_of}
-use Rattle.ground_chain.specs.Reckoning.{Reckoning, next_run, nothing_judged}
-use Rattle.ground_chain.specs.Accounts.{all_parts}
+use Rattle.ground_chain.specs.Run.{expected, Arrival, Judged, known_from}
+use Rattle.ground_chain.specs.Report.{added, end_row, restored_of, all_parts}
+use Rattle.ground_chain.specs.Reception.{known_of, Reckoning, next_run, nothing_judged}
 use Rattle.ground_chain.specs.Restoring.{restored_texts}
 use Rattle.late_window.specs.declared.done.LateDone.{LateDone}
 use Rattle.late_window.specs.declared.late.LateArrivals.{LateArrivals}
-use Rattle.late_window.specs.Numbers.{Numbered, highest_with, near_number, numbered_from}
-use Rattle.late_window.specs.Order.{arrival_of}
+use Rattle.late_window.specs.Order.{Numbered, highest_with, near_number, numbered_from, arrival_of, late_row}
 use Rattle.late_window.specs.Lines.{empty_line, given_from, gives, late_from, line_after, next_line, passed_over}
-use Rattle.late_window.specs.Rows.{late_row}
 
 -- nothing has arrived
 abbrev pub nothing_late : ℕ → ℕ → LateArrivals

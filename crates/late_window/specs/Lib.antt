@@ -1,7 +1,5 @@
-pub mod Numbers
-pub mod Order
 pub mod Lines
-pub mod Rows
+pub mod Order
 pub mod Late
 pub mod Restoring
 pub mod Deliveries

@@ -1,7 +1,6 @@
 -- Arrivals that are held in order, and given up one after another.
 use Rattle.std.specs.Prelude.{◌≡◌, ℕ, ◌+◌, ◌≤◌, Bool, false, nat_lt, if◌then◌else◌, List, [], ◌∷◌, ◌++◌, length, take, slice_index_or, Option, Some, None}
-use Rattle.late_window.specs.Numbers.{Numbered}
-use Rattle.late_window.specs.Order.{placed}
+use Rattle.late_window.specs.Order.{Numbered, placed}
 
 -- The arrivals that are held, in order, and the number of the one that was given up last. At most as many as the window is
 -- large are held for longer than it takes to give up the least one.

@@ -1,19 +1,16 @@
 -- What restoring a store owes whose packets may come late: the run over its packets of the chosen APID, in order.
 use Rattle.std.specs.Prelude.{◌≡◌, ℕ, ◌-◌, ◌^◌, ◌≤◌, IsTrue, List, ◌++◌, length, take, drop, Some, unwrap_or}
-use Rattle.desk_ports.specs.Courses.{Course, Work, to_report}
-use Rattle.desk_ports.specs.WalkWorks.{WalkWork, work_on}
+use Rattle.desk_ports.specs.Courses.{Course, Work, to_report, WalkWork, work_on}
 use Rattle.packet_store.specs.declared.fault.WalkFault.{WalkFault}
 use Rattle.packet_store.specs.SpacePackets.{Packet}
 use Rattle.packet_store.specs.StoreReader.{opened, walk_over}
 use Rattle.packet_store.specs.Walks.{walk}
 use Rattle.ground_chain.specs.Run.{Arrival, Judged, run}
-use Rattle.ground_chain.specs.Report.{header_row, restored_of}
-use Rattle.ground_chain.specs.Accounts.{all_parts}
+use Rattle.ground_chain.specs.Report.{header_row, restored_of, all_parts}
 use Rattle.ground_chain.specs.Restoring.{arrivals_of, restored_texts}
 use Rattle.late_window.specs.declared.done.LateDone.{LateDone}
 use Rattle.late_window.specs.declared.run.LateRun.{LateRun}
-use Rattle.late_window.specs.Numbers.{numbered}
-use Rattle.late_window.specs.Order.{late_count, ordered}
+use Rattle.late_window.specs.Order.{numbered, late_count, ordered}
 use Rattle.late_window.specs.Late.{IsWithinLimits, done_of, last_bytes, last_rows, nothing_late, bytes_left}
 
 -- the packets of the APID in a store, as they arrive

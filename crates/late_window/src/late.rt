@@ -1,8 +1,7 @@
 //! Arrivals that are put in order and then judged.
 
 ghost use Rattle.std.specs.Prelude.{◌≡◌, ◌+◌, ◌-◌, ◌^◌, ◌<◌, ◌≤◌, ◌*◌, [], length, take, true, IfOk, OnOk};
-ghost use Rattle.desk_ports.specs.Turns.{AreReady};
-ghost use Rattle.desk_ports.specs.Writings.{Writes};
+ghost use Rattle.desk_ports.specs.Turns.{AreReady, Writes};
 ghost use Rattle.ground_chain.specs.Run.{IsArrival};
 ghost use Rattle.late_window.specs.Late.{AreJudged, IsWithinLimits, Sorts, arrival_bytes, held_bytes, last_bytes, done_of, nothing_late};
 ghost use Rattle.late_window.specs.Lines.{given_up};

@@ -5,17 +5,15 @@ ghost use Rattle.packet_store.specs.SpacePackets.{period};
 ghost use Rattle.packet_store.specs.Walks.{walk};
 ghost use Rattle.desk_ports.specs.Courses.{owed, texts_of};
 ghost use Rattle.mask_update.specs.Histories.{History, IsValid};
-ghost use Rattle.loss_player.specs.Gaps.{AreGapsShort};
+ghost use Rattle.loss_player.specs.Played.{AreGapsShort};
 ghost use Rattle.ground_chain.specs.Deliveries.{arrival_at, history_arrivals, report_text, restored_bytes};
 ghost use Rattle.ground_chain.specs.Run.{Arrival};
 ghost use Rattle.ground_chain.specs.Worked.{four_packets, lost_between};
 ghost use Rattle.late_window.specs.Deliveries.{IsLateDelivery};
 ghost use Rattle.ground_chain.specs.Report.{header_row, run_bytes, run_report, run_rows};
-ghost use Rattle.late_window.specs.Numbers.{IsNear, Numbered, near_number, numbered};
-ghost use Rattle.late_window.specs.Order.{IsSorting, AreWithinWindow, arrival_of, in_order, kept, late_count, ordered, sorted};
+ghost use Rattle.late_window.specs.Order.{IsNear, Numbered, near_number, numbered, IsSorting, AreWithinWindow, arrival_of, in_order, kept, late_count, ordered, sorted, late_row};
 ghost use Rattle.late_window.specs.Lines.{empty_line, given_from, late_from, line_after};
 ghost use Rattle.late_window.specs.Restoring.{judged_before, late_course, late_done, ordered_run, store_arrivals};
-ghost use Rattle.late_window.specs.Rows.{late_row};
 ghost use Rattle.late_window.specs.Worked.{swapped};
 
 /// The first arrival has its sequence count as its number. Any other has the one number near the greatest number so far that

@@ -1,8 +1,8 @@
 //! The numbers of arrivals that may come late, from their sequence counts.
 
 ghost use Rattle.std.specs.Prelude.{◌≡◌, ◌+◌, ◌<◌, ◌≤◌, ◌^◌, None, IfSome};
-ghost use Rattle.ground_chain.specs.Numbers.{expected};
-ghost use Rattle.late_window.specs.Numbers.{highest_with, near_number, number_around};
+ghost use Rattle.ground_chain.specs.Run.{expected};
+ghost use Rattle.late_window.specs.Order.{highest_with, near_number, number_around};
 
 use packet_store::PERIOD;
 use std::marker::Model;

@@ -21,7 +21,7 @@ pub struct Place {
 impl Model for Place {
     ghost use Rattle.std.specs.Prelude.{take, vec_len};
     ghost use Rattle.std.specs.Vec.{vec_capacity};
-    ghost use Rattle.late_window.specs.Numbers.{Numbered};
+    ghost use Rattle.late_window.specs.Order.{Numbered};
     ghost use Rattle.late_window.specs.Lines.{IsPlace};
 
     ghost Value = { Numbered };

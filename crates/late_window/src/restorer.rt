@@ -6,13 +6,13 @@ ghost use Rattle.desk_ports.specs.Turns.{IsOwed, IsReadyRun, Steps};
 ghost use Rattle.desk_ports.specs.Courses.{AfterRun, HasCause, Work, by_stop, to_report};
 ghost use Rattle.mask_update.specs.Histories.{History};
 ghost use Rattle.packet_store.specs.Walks.{walk};
-ghost use Rattle.packet_store.specs.Faults.{stop_by};
+ghost use Rattle.packet_store.specs.StoreReader.{stop_by};
 ghost use Rattle.packet_store.specs.declared.fault.WalkFault.{WalkFault};
 ghost use Rattle.ground_chain.specs.Report.{header_row};
 ghost use Rattle.late_window.specs.Restoring.{Owes, late_work};
 ghost use Rattle.late_window.specs.declared.done.LateDone.{LateDone};
 ghost use Rattle.late_window.specs.Deliveries.{IsLateDelivered, IsLatePlayed};
-ghost use Rattle.flight_chain.specs.Stores.{IsStream};
+ghost use Rattle.flight_chain.specs.Compressing.{IsStream};
 
 use crate::done::LateDone;
 use crate::run::LateRun;

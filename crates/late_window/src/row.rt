@@ -1,7 +1,7 @@
 //! The last row of the report.
 
 ghost use Rattle.std.specs.Prelude.{◌≡◌};
-ghost use Rattle.late_window.specs.Rows.{late_row};
+ghost use Rattle.late_window.specs.Order.{late_row};
 
 use desk_ports::Row;
 

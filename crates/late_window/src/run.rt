@@ -1,7 +1,7 @@
 //! A store that is read packet by packet, whose arrivals may come late.
 
 ghost use Rattle.std.specs.Prelude.{◌≡◌, ◌-◌, ◌^◌, ◌≤◌, IfOk};
-ghost use Rattle.flight_chain.specs.Stores.{IsStream};
+ghost use Rattle.flight_chain.specs.Compressing.{IsStream};
 
 use crate::done::LateDone;
 use crate::late::LateArrivals;
@@ -26,7 +26,7 @@ impl Run for LateRun {
     type Data = WalkFault;
 
     ghost use Rattle.std.specs.Prelude.{true};
-    ghost use Rattle.packet_store.specs.Faults.{stop_by};
+    ghost use Rattle.packet_store.specs.StoreReader.{stop_by};
     ghost use Rattle.late_window.specs.Restoring.{Owes};
 
     ghost owes = { Owes };

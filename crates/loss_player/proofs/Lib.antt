@@ -1,6 +1,3 @@
-pub mod Tallies
-mod Copies
-mod PlayCourses
 mod PlayedPackets
-mod Gaps
-pub mod PlayedWalks
+pub mod Tallies
+pub mod PlayCourses

@@ -1,27 +1,31 @@
--- What is owed for the rest of a store, packet by packet.
-use Rattle.std.proofs.Common.{◌≡◌, ℕ, ◌+◌, ◌≤◌, Bool, true, false, if◌then◌else◌, List, ◌∷◌, ◌++◌, replicate, Option, Some, refl, sym, ap, ◌∙◌, subst, zero-add, arith}
-use Rattle.std.proofs.lemmas.List.Sums.{sum_by-cons}
+-- The walk over a played store, and what is owed for its rest, packet by packet.
+use Rattle.std.proofs.Common.{◌≡◌, ℕ, ◌+◌, ◌≤◌, Bool, true, false, if◌then◌else◌, List, ◌∷◌, ◌++◌, replicate, Option, Some, refl, sym, ap, ◌∙◌, subst, zero-add, arith, suc, ◌^◌, ◌<◌, ◌⊎◌, [], length, All, None, inl, inr}
+use Rattle.std.proofs.lemmas.Bool.{cases_lt}
 use Rattle.std.proofs.lemmas.Grind.{flat_map-append}
+use Rattle.std.proofs.lemmas.List.Concat.{flat_map-cons}
+use Rattle.std.proofs.lemmas.List.Elements.{All-append, All-replicate}
+use Rattle.std.proofs.lemmas.List.Sums.{sum_by-cons}
+use Rattle.desk_ports.specs.Courses.{Work, to_output, to_report, work_on}
 use Rattle.desk_ports.specs.Meanings.{Meanings}
-use Rattle.desk_ports.specs.Courses.{Work, to_output, to_report}
-use Rattle.desk_ports.specs.WalkWorks.{work_on}
 use Rattle.desk_ports.specs.declared.desk.Outlet.TheVariants as outlet
-use Rattle.desk_ports.proofs.Runs.{to_outlet-append}
-use Rattle.desk_ports.proofs.WalkTurns.{GoesOn, IsDone}
+use Rattle.desk_ports.proofs.Courses.{to_outlet-append}
+use Rattle.desk_ports.proofs.Steps.{GoesOn, IsDone}
 use Rattle.side_tables.specs.Rows.{copies_of}
-use Rattle.packet_store.specs.declared.reader.Taken.{Taken}
-use Rattle.packet_store.specs.declared.fault.WalkFault.{WalkFault}
 use Rattle.packet_store.specs.SpacePackets.{Packet, packet_bytes, is_chosen}
-use Rattle.packet_store.specs.Walks.{walk, packets_bytes}
 use Rattle.packet_store.specs.StoreReader.{ReaderState, TakesPacket, walk_over}
+use Rattle.packet_store.specs.Walks.{walk, packets_bytes, IsGood, Walk, walk_from, packet_first}
+use Rattle.packet_store.specs.declared.fault.WalkFault.{WalkFault}
+use Rattle.packet_store.specs.declared.fault.WalkFault.TheVariants as fault
+use Rattle.packet_store.specs.declared.reader.Taken.{Taken}
 use Rattle.packet_store.proofs.StoreTurns.{packet_of}
+use Rattle.packet_store.proofs.Walks.{walk_from-good, walk_from-none, walk_from-too_many}
+use Rattle.loss_player.specs.Played.{times_of, place_after, played_from, repeated, played_of, chosen_count, store_numbers}
+use Rattle.loss_player.specs.Playing.{play_course, play_work, nothing_read, player_state, next_copies, all_numbers, left_to_play, rest_work, IsCounted, HasCounted, Owes, IsPlayer}
+use Rattle.loss_player.specs.Report.{play_report}
 use Rattle.loss_player.specs.declared.played.Played.{Played}
 use Rattle.loss_player.specs.declared.played.Tally.{Tally}
 use Rattle.loss_player.specs.declared.playing.Playing.{Playing}
-use Rattle.loss_player.specs.Played.{times_of, place_after, played_from, repeated, played_of, chosen_count, store_numbers}
-use Rattle.loss_player.specs.Report.{play_report}
-use Rattle.loss_player.specs.Playing.{play_course, play_work, nothing_read, player_state, next_copies, all_numbers, left_to_play, rest_work, IsCounted, HasCounted, Owes, IsPlayer}
-use Rattle.loss_player.proofs.Copies.{packets_bytes-replicate}
+use Rattle.loss_player.proofs.PlayedPackets.{packets_bytes-replicate}
 
 -- ---- one packet
 
@@ -114,3 +118,49 @@ Owes-unread s is = subst (λ (p : Playing). Owes p (play_work (copies_of s.scrip
 
   course : (store : List ℕ) → play_course (copies_of s.script) (player_state s).apid store ≡ (rest_work (nothing_read (player_state s).apid s.script)).course store
   course store = let same = numbers store in λ i. record (play_course (copies_of s.script) (player_state s).apid store) { after = to_report (play_report (same i)) }
+
+-- ---- the walk over a played store
+
+-- good packets, one after the other, are walked
+pub walk_from-packets : (chosen : Option ℕ) (taken offset : ℕ) (packets : List Packet) → All (IsGood chosen) packets → taken + length packets ≤ 2 ^ 32
+    → walk_from chosen taken offset (packets_bytes packets) ≡ record { packets = packets; rest = []; ending = None }
+walk_from-packets chosen taken offset [] all few = walk_from-none chosen taken offset
+walk_from-packets chosen taken offset (p ∷ packets) all few =
+    let here : IsGood chosen p = all 0 p (omega arith) in
+    let more : All (IsGood chosen) packets = λ k d within. all (suc k) d (omega arith) in
+    ap (walk_from chosen taken offset) (flat_map-cons packet_bytes p packets)
+    ∙ (walk_from-good chosen taken offset p (packets_bytes packets) here (omega arith)
+    ∙ ap (packet_first p) (walk_from-packets chosen (taken + 1) (offset + length (packet_bytes p)) packets more (omega arith)))
+
+ending-full : (chosen : Option ℕ) (taken offset : ℕ) (bytes : List ℕ) → taken ≡ 2 ^ 32 → 0 < length bytes → (walk_from chosen taken offset bytes).ending ≡ Some fault.TooMany
+ending-full chosen taken offset [] full some = absurd (omega (arith, some))
+ending-full chosen taken offset (b ∷ bytes) full some = ap (λ (w : Walk). w.ending) (walk_from-too_many chosen taken offset b bytes full)
+
+-- good packets, one after the other, are too many if they are more than may be walked
+pub walk_from-many : (chosen : Option ℕ) (taken offset : ℕ) (packets : List Packet) → All (IsGood chosen) packets → taken ≤ 2 ^ 32 → 2 ^ 32 < taken + length packets
+    → (walk_from chosen taken offset (packets_bytes packets)).ending ≡ Some fault.TooMany
+walk_from-many chosen taken offset [] all most many = absurd (omega (arith, most, many))
+walk_from-many chosen taken offset (p ∷ packets) all most many =
+    ap (λ bytes. (walk_from chosen taken offset bytes).ending) (flat_map-cons packet_bytes p packets)
+    ∙ by_place (cases_lt taken (2 ^ 32)) (λ less. walk_from-many chosen (taken + 1) (offset + length (packet_bytes p)) packets more (omega (arith, less)) (omega (arith, many)))
+  where
+    here : IsGood chosen p
+    here = all 0 p (omega arith)
+
+    more : All (IsGood chosen) packets
+    more = λ k d within. all (suc k) d (omega arith)
+
+    by_place : (taken < 2 ^ 32) ⊎ (2 ^ 32 ≤ taken) → (taken < 2 ^ 32 → (walk_from chosen (taken + 1) (offset + length (packet_bytes p)) (packets_bytes packets)).ending ≡ Some fault.TooMany)
+        → (walk_from chosen taken offset (packet_bytes p ++ packets_bytes packets)).ending ≡ Some fault.TooMany
+    by_place (inl less) later = ap (λ (w : Walk). w.ending) (walk_from-good chosen taken offset p (packets_bytes packets) here less) ∙ later less
+    by_place (inr full) later = ending-full chosen taken offset (packet_bytes p ++ packets_bytes packets) (omega (arith, most, full)) (omega arith)
+
+-- what arrives of good packets is good
+pub good_played : (chosen : Option ℕ) (copies : ℕ → ℕ) (t : ℕ) (packets : List Packet) → All (IsGood chosen) packets → All (IsGood chosen) (played_from chosen copies t packets)
+good_played chosen copies t [] all = all
+good_played chosen copies t (p ∷ packets) all =
+    let here : IsGood chosen p = all 0 p (omega arith) in
+    let more : All (IsGood chosen) packets = λ k d within. all (suc k) d (omega arith) in
+    All-append (IsGood chosen) (replicate (times_of (is_chosen chosen p.header) copies t) p) (played_from chosen copies (place_after (is_chosen chosen p.header) t) packets)
+    (All-replicate (IsGood chosen) (times_of (is_chosen chosen p.header) copies t) p here)
+    (good_played chosen copies (place_after (is_chosen chosen p.header) t) packets more)

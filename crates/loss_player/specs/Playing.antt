@@ -1,7 +1,6 @@
 -- What playing a store owes: the played store and the play report.
 use Rattle.std.specs.Prelude.{◌≡◌, ℕ, ◌+◌, ◌≤◌, Bool, IsTrue, List, Some, unwrap_or}
-use Rattle.desk_ports.specs.Courses.{Course, Work, to_output, to_report}
-use Rattle.desk_ports.specs.WalkWorks.{WalkWork, work_on}
+use Rattle.desk_ports.specs.Courses.{Course, Work, to_output, to_report, WalkWork, work_on}
 use Rattle.side_tables.specs.declared.rows.CopyRow.{CopyRow}
 use Rattle.side_tables.specs.Rows.{copies_of}
 use Rattle.packet_store.specs.declared.fault.WalkFault.{WalkFault}

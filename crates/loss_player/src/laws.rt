@@ -6,9 +6,8 @@ ghost use Rattle.desk_ports.specs.Courses.{AreFronts, owed, to_output, to_report
 ghost use Rattle.side_tables.specs.Rows.{copies_of};
 ghost use Rattle.packet_store.specs.SpacePackets.{is_chosen};
 ghost use Rattle.packet_store.specs.Walks.{walk};
-ghost use Rattle.loss_player.specs.Played.{played_bytes, played_of, played_packets, store_numbers};
+ghost use Rattle.loss_player.specs.Played.{played_bytes, played_of, played_packets, store_numbers, AreGapsShort, TellsShortGaps};
 ghost use Rattle.loss_player.specs.Copied.{copied_from};
-ghost use Rattle.loss_player.specs.Gaps.{AreGapsShort, TellsShortGaps};
 ghost use Rattle.loss_player.specs.Report.{header_row, play_report};
 ghost use Rattle.loss_player.specs.Playing.{play_course};
 ghost use Rattle.loss_player.specs.Worked.{copies_row, worked_store};

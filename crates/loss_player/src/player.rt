@@ -4,7 +4,7 @@ ghost use Rattle.std.specs.Prelude.{◌≡◌, ◌≤◌, IfOk};
 ghost use Rattle.desk_ports.specs.Turns.{IsReadyRun};
 ghost use Rattle.desk_ports.specs.Courses.{AfterRun, HasCause, by_stop};
 ghost use Rattle.side_tables.specs.Rows.{copies_of};
-ghost use Rattle.packet_store.specs.Faults.{stop_by};
+ghost use Rattle.packet_store.specs.StoreReader.{stop_by};
 ghost use Rattle.loss_player.specs.Playing.{play_work};
 
 use crate::PlayFault;

@@ -3,7 +3,7 @@
 ghost use Rattle.std.specs.Prelude.{◌≡◌, ◌^◌, ◌-◌, ◌<◌, ◌≤◌, true, length, IfOk};
 ghost use Rattle.desk_ports.specs.Meanings.{IsReadyOut};
 ghost use Rattle.desk_ports.specs.Courses.{to_output};
-ghost use Rattle.desk_ports.specs.Writings.{Writes};
+ghost use Rattle.desk_ports.specs.Turns.{Writes};
 ghost use Rattle.side_tables.specs.Rows.{copies_of};
 ghost use Rattle.loss_player.specs.Played.{repeated};
 
@@ -31,7 +31,7 @@ impl Run for Playing {
 
     type Data = WalkFault;
 
-    ghost use Rattle.packet_store.specs.Faults.{stop_by};
+    ghost use Rattle.packet_store.specs.StoreReader.{stop_by};
     ghost use Rattle.loss_player.specs.Playing.{Owes};
 
     ghost owes = { Owes };

@@ -3,7 +3,7 @@
 ghost use Rattle.std.specs.Prelude.{◌≡◌, ◌+◌, ◌≤◌, ◌++◌, length};
 ghost use Rattle.desk_ports.specs.Meanings.{IsReadyOut};
 ghost use Rattle.desk_ports.specs.Courses.{to_report};
-ghost use Rattle.desk_ports.specs.Writings.{Writes};
+ghost use Rattle.desk_ports.specs.Turns.{Writes};
 ghost use Rattle.loss_player.specs.Report.{first_text, numbers_row, play_report};
 
 use crate::played::Played;

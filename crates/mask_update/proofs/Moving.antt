@@ -11,9 +11,8 @@ use Rattle.std.proofs.lemmas.Nat.Bits.{bit_at-trailing_zeros, bit_at-zero, same_
 use Rattle.std.proofs.lemmas.Nat.{xor_lt}
 use Rattle.bit_vectors.specs.Vectors.{NoneIsOne, xor_bits}
 use Rattle.bit_vectors.specs.Words.{IsWord, HasNoSpareBit}
-use Rattle.bit_vectors.proofs.ByteBits.{zeros_is}
+use Rattle.bit_vectors.proofs.NumberBits.{zeros_is, same_bit}
 use Rattle.bit_vectors.proofs.Lists.{get_or-replicate_same}
-use Rattle.bit_vectors.proofs.Numbers.{same_bit}
 use Rattle.bit_vectors.proofs.Places.{get_or-zip2_all, zip2_is}
 use Rattle.bit_vectors.proofs.WordBits.{Bitwise, Bitwise-drop, Bitwise-xor}
 use Rattle.mask_update.specs.Masks.{Advances, HaveMoved, Running, Walked, moves_in}

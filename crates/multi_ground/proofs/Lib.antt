@@ -1,13 +1,6 @@
-pub mod MultiRuns
 pub mod Received
 pub mod MultiCourses
-pub mod StreamWritings
-pub mod LastRows
-pub mod NoShapes
-pub mod StreamsApart
-pub mod WellJudged
-pub mod ContentsApart
 pub mod Lines
 pub mod RowsApart
-pub mod Restored
-pub mod PlayedStreams
+pub mod StreamsApart
+pub mod MultiRuns

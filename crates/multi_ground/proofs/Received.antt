@@ -13,12 +13,10 @@ use Rattle.side_tables.specs.declared.rows.StreamRow.{StreamRow}
 use Rattle.side_tables.specs.Streams.{AreStreams, no_stream, stream_at, stream_of}
 use Rattle.ground_chain.specs.declared.restored.Restored.{Restored}
 use Rattle.ground_chain.specs.Run.{Arrival, judge, known_after, nothing_known}
-use Rattle.ground_chain.specs.Reception.{known_of}
-use Rattle.ground_chain.specs.Reckoning.{HasJudged, Judges, Reckoning, nothing_judged}
+use Rattle.ground_chain.specs.Reception.{known_of, HasJudged, Judges, Reckoning, nothing_judged}
 use Rattle.ground_chain.specs.Report.{is_written_kind}
 use Rattle.ground_chain.specs.Restoring.{arrival_of}
-use Rattle.ground_chain.proofs.Counted.{run_packets}
-use Rattle.ground_chain.proofs.Reckonings.{HasJudged-next}
+use Rattle.ground_chain.proofs.Reckonings.{run_packets, HasJudged-next}
 use Rattle.multi_ground.specs.declared.receiving.MultiReceiving.{MultiReceiving}
 use Rattle.multi_ground.specs.Grounds.{reckoning_at}
 use Rattle.multi_ground.specs.MultiRun.{StreamJudged, has_shape, is_arrival, is_other_shape, judged_after, judged_of, stream_arrivals, written_count}

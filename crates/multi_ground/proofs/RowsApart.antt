@@ -1,30 +1,34 @@
 -- The report has of each stream the rows of its own run.
-use Rattle.std.proofs.Common.{◌≡◌, ℕ, zero, suc, ◌^◌, ◌<◌, ◌≤◌, ◌==◌, Bool, true, false, cond, List, [], ◌∷◌, ◌++◌, map, length, get_or, All, codes, Option, Some, None, refl, sym, ap, ◌∙◌, subst, append-nil, append_assoc, arith}
-use Rattle.std.specs.Prelude.{IfSome}
 use Rattle.std.specs.Fmt.{decimal}
 use Rattle.std.specs.List.{filter, flat_map}
+use Rattle.std.specs.Prelude.{IfSome}
+use Rattle.std.proofs.Common.{◌≡◌, ℕ, zero, suc, ◌^◌, ◌<◌, ◌≤◌, ◌==◌, Bool, true, false, cond, List, [], ◌∷◌, ◌++◌, map, length, get_or, All, codes, Option, Some, None, refl, sym, ap, ◌∙◌, subst, append-nil, append_assoc, arith, ◌%◌, if◌then◌else◌, Result}
 use Rattle.std.proofs.lemmas.Bool.{eq-eqb, eqb-false, eqb-true, ne_eqb}
 use Rattle.std.proofs.lemmas.List.{get_or_default}
 use Rattle.std.proofs.lemmas.List.Concat.{flat_map-cons}
 use Rattle.std.proofs.lemmas.List.Elements.{All-get_or, All-head, All-tail}
 use Rattle.std.proofs.lemmas.List.Sums.{count_by-le-length}
 use Rattle.bit_vectors.specs.declared.fault.BitFault.TheVariants.{Wrong, EndsEarly}
-use Rattle.packet_store.specs.SpacePackets.{Packet}
-use Rattle.side_tables.specs.declared.rows.StreamRow.{StreamRow}
+use Rattle.desk_ports.specs.Meanings.{Meanings, Counts}
+use Rattle.desk_ports.specs.Turns.{Writes}
+use Rattle.desk_ports.proofs.Steps.{Writes-is}
 use Rattle.side_tables.specs.Streams.{AreStreams, IsStreamRow, no_stream, stream_at}
-use Rattle.ground_chain.specs.declared.verdict.Lost.{Lost}
+use Rattle.side_tables.specs.declared.rows.StreamRow.{StreamRow}
+use Rattle.packet_store.specs.SpacePackets.{Packet, period, space_packet}
+use Rattle.ground_chain.specs.Report.{end_row, header_row, is_repeat, is_written_kind, lost_row, number_row, own_row, restored_of, run_rows, kind_value, verdict_rows, content_bytes, written_bytes}
+use Rattle.ground_chain.specs.Run.{Judged, nothing_known, run}
+use Rattle.ground_chain.specs.declared.restored.Restored.{Restored}
 use Rattle.ground_chain.specs.declared.verdict.Kind.{Kind}
 use Rattle.ground_chain.specs.declared.verdict.Kind.TheVariants.{Written, Repeat, Unsynced, Gap, Refused}
-use Rattle.ground_chain.specs.declared.restored.Restored.{Restored}
-use Rattle.ground_chain.specs.Run.{Judged, nothing_known, run}
-use Rattle.ground_chain.specs.Report.{end_row, header_row, is_repeat, is_written_kind, lost_row, number_row, own_row, restored_of, run_rows, kind_value, verdict_rows}
-use Rattle.ground_chain.proofs.Counted.{run_packets}
-use Rattle.multi_ground.specs.MultiRun.{StreamJudged, multi_run, shape_count, stream_arrivals}
-use Rattle.multi_ground.specs.MultiOutputs.{end_rows, multi_header, shape_row, tagged, tagged_rows}
+use Rattle.ground_chain.specs.declared.verdict.Lost.{Lost}
+use Rattle.ground_chain.proofs.Reckonings.{run_packets}
 use Rattle.multi_ground.specs.Apart.{judged_with, multi_report, rows_on}
+use Rattle.multi_ground.specs.MultiOutputs.{end_rows, multi_header, shape_row, tagged, tagged_rows, arrival_texts, outputs_of, written_packet}
+use Rattle.multi_ground.specs.MultiRun.{StreamJudged, multi_run, shape_count, stream_arrivals}
 use Rattle.multi_ground.proofs.Lines.{IsLine, lacks, lacks-append, lacks-decimal, no_decimal, rows-others, rows-tagged, rows-word}
-use Rattle.multi_ground.proofs.MultiRuns.{arrivals-few, shape_count-few}
-use Rattle.multi_ground.proofs.WellJudged.{IsWellJudged}
+use Rattle.multi_ground.proofs.MultiRuns.{arrivals-few, shape_count-few, IsWellJudged}
+
+-- ---- the report has of each stream the rows of its own run
 
 -- what holds at each place
 All-get : {X : Type 0} (P : X → Type 0) (xs : List X) (d : X) → ((k : ℕ) → k < length xs → P (get_or xs k d)) → All P xs
@@ -193,3 +197,23 @@ report-apart streams packets index are well few within =
     ∙ ap (λ l. run_rows (judged_with apid judged) ++ l) (
     one_end apid small packets few streams index shapes are.right within refl (λ k inside same. are.apart k index inside within same)
     ∙ (ap (λ l. own ++ l) (shapes_passed apid small (shape_count streams packets) size) ∙ append-nil own))))
+
+-- ---- what is written of one arrival of a stream: its rows, and then its Space Packet
+
+-- a row that is not empty, after its APID and a comma
+pub tagged-some : (apid : ℕ) (row : List ℕ) → 0 < length row → (decimal apid ++ codes ",") ++ row ≡ tagged apid row
+tagged-some apid [] some = absurd (omega arith)
+tagged-some apid (byte ∷ row) some = refl
+
+-- what is written of one arrival alone
+pub one_arrival : {D T E : Type 0} {meaning : D → Meanings} {counts : D → Counts} {a b : D} {r : Result T E} (j : StreamJudged) → Writes meaning counts a b (arrival_texts j) r → Writes meaning counts a b (outputs_of (j ∷ [])) r
+one_arrival j writes = Writes-is (sym (append-nil (arrival_texts j))) writes
+
+-- a packet that is not written, and one that is
+pub no_packet : (j : StreamJudged) → is_written_kind j.judged.verdict.kind ≡ false → [] ≡ written_packet j
+no_packet j other = ap (λ (b : Bool). if b then space_packet j.apid (j.judged.verdict.t % period) (content_bytes j.judged.after.state) else []) (sym other)
+
+pub one_packet : (j : StreamJudged) (bytes : List ℕ) → is_written_kind j.judged.verdict.kind ≡ true → bytes ≡ written_bytes j.judged → space_packet j.apid (j.judged.verdict.t % period) bytes ≡ written_packet j
+one_packet j bytes written is =
+    let content : bytes ≡ content_bytes j.judged.after.state = is ∙ ap (λ (b : Bool). if b then content_bytes j.judged.after.state else []) written in
+    ap (space_packet j.apid (j.judged.verdict.t % period)) content ∙ ap (λ (b : Bool). if b then space_packet j.apid (j.judged.verdict.t % period) (content_bytes j.judged.after.state) else []) (sym written)

@@ -1,6 +1,6 @@
 -- What is kept of the arrivals of several streams.
 use Rattle.std.specs.Prelude.{ℕ, List, slice_index_or}
-use Rattle.ground_chain.specs.Reckoning.{Reckoning, nothing_judged}
+use Rattle.ground_chain.specs.Reception.{Reckoning, nothing_judged}
 
 -- what is kept of a stream, by its index
 abbrev pub reckoning_at : List Reckoning → ℕ → Reckoning

@@ -2,16 +2,14 @@
 use Rattle.std.specs.Prelude.{◌≡◌, ℕ, ◌+◌, ◌^◌, ◌<◌, ◌≤◌, if◌then◌else◌, IsTrue, List, [], ◌++◌, length, slice_set, vec_len, None}
 use Rattle.std.specs.List.{cons_option}
 use Rattle.std.specs.Vec.{vec_capacity}
-use Rattle.desk_ports.specs.Courses.{Outputs, Work, to_report}
-use Rattle.desk_ports.specs.WalkWorks.{WalkWork, work_on}
+use Rattle.desk_ports.specs.Courses.{Outputs, Work, to_report, WalkWork, work_on}
 use Rattle.packet_store.specs.declared.fault.WalkFault.{WalkFault}
 use Rattle.packet_store.specs.SpacePackets.{Packet, packet_bytes}
 use Rattle.packet_store.specs.Walks.{IsGood}
 use Rattle.packet_store.specs.StoreReader.{opened, walk_over}
 use Rattle.side_tables.specs.declared.rows.StreamRow.{StreamRow}
 use Rattle.side_tables.specs.Streams.{AreStreams, stream_at}
-use Rattle.ground_chain.specs.Reckoning.{HasJudged, Judges, Reckoning}
-use Rattle.ground_chain.specs.Reception.{next_judged}
+use Rattle.ground_chain.specs.Reception.{HasJudged, Judges, Reckoning, next_judged}
 use Rattle.ground_chain.specs.Report.{is_written_kind}
 use Rattle.multi_ground.specs.declared.receiving.MultiReceiving.{MultiReceiving}
 use Rattle.multi_ground.specs.Grounds.{reckoning_at}

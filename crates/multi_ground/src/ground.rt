@@ -3,8 +3,7 @@
 ghost use Rattle.std.specs.Prelude.{◌≡◌, ℕ, ◌<◌, ◌∷◌, ◌++◌, [], List, IfOk, length, map, slice_set};
 ghost use Rattle.side_tables.specs.declared.rows.StreamRow.{StreamRow};
 ghost use Rattle.ground_chain.specs.Run.{Arrival};
-ghost use Rattle.ground_chain.specs.Reception.{AgreesWith, next_judged};
-ghost use Rattle.ground_chain.specs.Reckoning.{HasJudged, IsNextArrival, Judges, nothing_judged};
+ghost use Rattle.ground_chain.specs.Reception.{AgreesWith, next_judged, HasJudged, IsNextArrival, Judges, nothing_judged};
 ghost use Rattle.multi_ground.specs.Grounds.{reckoning_at};
 
 use bit_vectors::NoMemory;
@@ -23,7 +22,7 @@ pub struct MultiGround {
 impl Model for MultiGround {
     ghost use Rattle.std.specs.Prelude.{◌≡◌, List, vec_len};
     ghost use Rattle.std.specs.Vec.{vec_capacity};
-    ghost use Rattle.ground_chain.specs.Reckoning.{Reckoning};
+    ghost use Rattle.ground_chain.specs.Reception.{Reckoning};
 
     ghost Value = { List Reckoning };
 

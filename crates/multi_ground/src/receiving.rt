@@ -2,9 +2,8 @@
 
 ghost use Rattle.std.specs.Prelude.{◌≡◌, ◌+◌, ◌-◌, ◌^◌, ◌<◌, ◌∷◌, ◌++◌, [], List, length, true, IfOk};
 ghost use Rattle.desk_ports.specs.Meanings.{HasWriteCause};
-ghost use Rattle.desk_ports.specs.Turns.{AreReady};
+ghost use Rattle.desk_ports.specs.Turns.{AreReady, Writes};
 ghost use Rattle.desk_ports.specs.Courses.{to_report};
-ghost use Rattle.desk_ports.specs.Writings.{Writes};
 ghost use Rattle.packet_store.specs.SpacePackets.{Packet};
 ghost use Rattle.ground_chain.specs.Run.{IsArrival};
 
@@ -35,7 +34,7 @@ impl Run for MultiReceiving {
 
     type Data = WalkFault;
 
-    ghost use Rattle.packet_store.specs.Faults.{stop_by};
+    ghost use Rattle.packet_store.specs.StoreReader.{stop_by};
     ghost use Rattle.multi_ground.specs.Receiving.{Owes};
 
     ghost owes = { Owes };

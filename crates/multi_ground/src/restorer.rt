@@ -4,7 +4,7 @@ ghost use Rattle.std.specs.Prelude.{◌≡◌, ◌<◌, ℕ, All, Err, List, Som
 ghost use Rattle.desk_ports.specs.Meanings.{left};
 ghost use Rattle.desk_ports.specs.Turns.{IsReadyRun};
 ghost use Rattle.desk_ports.specs.Courses.{AfterRun, HasCause, by_stop};
-ghost use Rattle.packet_store.specs.Faults.{stop_by};
+ghost use Rattle.packet_store.specs.StoreReader.{stop_by};
 ghost use Rattle.multi_ground.specs.Apart.{AreRestored};
 ghost use Rattle.multi_ground.specs.MultiOutputs.{multi_work};
 

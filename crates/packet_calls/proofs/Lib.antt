@@ -1,4 +1,2 @@
-pub mod Received
-pub mod Delivered
 pub mod Refused
-pub mod States
+pub mod Received

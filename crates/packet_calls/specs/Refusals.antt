@@ -2,7 +2,7 @@
 use Rattle.std.specs.Prelude.{ℕ, ◌^◌, ◌==◌, nat_lt, not, ◌||◌, if◌then◌else◌, List, length, Option, None, Some, Result, Ok, Err}
 use Rattle.bit_vectors.specs.Vectors.{byte_count, has_spare_bit, most_places}
 use Rattle.packet_store.specs.SpacePackets.{period}
-use Rattle.ground_chain.specs.Reckoning.{Reckoning}
+use Rattle.ground_chain.specs.Reception.{Reckoning}
 use Rattle.packet_calls.specs.declared.fault.OpenFault.{OpenFault}
 use Rattle.packet_calls.specs.declared.fault.OpenFault.TheVariants as open_fault
 use Rattle.packet_calls.specs.declared.fault.SendFault.{SendFault}

@@ -3,7 +3,7 @@ use Rattle.std.specs.Prelude.{◌≡◌, ℕ, ◌+◌, List, length}
 use Rattle.state_bytes.specs.Frames.{frame, frame_bytes}
 use Rattle.packet_encode.specs.Encoder.{EncoderState}
 use Rattle.packet_encode.specs.Saved.{IsEncoderState, encoder_bytes, encoder_room}
-use Rattle.ground_chain.specs.Reckoning.{Reckoning}
+use Rattle.ground_chain.specs.Reception.{Reckoning}
 use Rattle.ground_chain.specs.Saved.{IsReckoning, reckoning_bytes, reckoning_room}
 
 -- the kind of a sender

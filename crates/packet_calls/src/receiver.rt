@@ -2,8 +2,7 @@
 
 ghost use Rattle.std.specs.Prelude.{◌≡◌, ◌↔◌, ℕ, ◌<◌, ◌≤◌, ◌++◌, ◌∷◌, [], List, None, Err, Ok, length, drop, IfSome, IfOk, OnOk, OnErr};
 ghost use Rattle.bit_vectors.specs.Vectors.{IsPlaces, byte_count, most_places};
-ghost use Rattle.ground_chain.specs.Reception.{next_judged};
-ghost use Rattle.ground_chain.specs.Reckoning.{HasJudged, Judges, Reckoning, nothing_judged};
+ghost use Rattle.ground_chain.specs.Reception.{next_judged, HasJudged, Judges, Reckoning, nothing_judged};
 ghost use Rattle.ground_chain.specs.Report.{written_bytes};
 ghost use Rattle.ground_chain.specs.Run.{Arrival};
 ghost use Rattle.packet_calls.specs.States.{AreOfReceiver, IsReceiverState, receiver_kind, receiver_state, receiver_state_room};
@@ -38,7 +37,7 @@ pub struct Receiver {
 }
 
 impl Model for Receiver {
-    ghost use Rattle.ground_chain.specs.Reckoning.{Reckoning};
+    ghost use Rattle.ground_chain.specs.Reception.{Reckoning};
 
     ghost Value = { Reckoning };
 

@@ -4,9 +4,9 @@ ghost use Rattle.std.specs.Prelude.{◌≡◌, ◌↔◌, ◌+◌, ◌<◌, ◌�
 ghost use Rattle.bit_vectors.specs.Vectors.{IsPlaces, byte_count, most_places};
 ghost use Rattle.mask_update.specs.Histories.{History, no_steps};
 ghost use Rattle.packet_encode.specs.Encoder.{EncoderState, StandsFor};
-ghost use Rattle.packet_encode.specs.Packets.{with_next_input};
+ghost use Rattle.packet_encode.specs.Forms.{with_next_input};
 ghost use Rattle.robust_window.specs.Histories.{level_at};
-ghost use Rattle.flight_chain.specs.Stores.{data_at};
+ghost use Rattle.flight_chain.specs.Compressing.{data_at};
 ghost use Rattle.packet_calls.specs.Sending.{first_mask, given_mask, mask_fits, mask_has_spare_bit, room_bits, room_bytes, vector_in};
 ghost use Rattle.packet_calls.specs.Refusals.{fault_in, opening_fault, sending_fault};
 ghost use Rattle.packet_calls.specs.States.{AreOfSender, IsSenderState, sender_kind, sender_state, sender_state_room};

@@ -3,8 +3,8 @@ use Rattle.std.proofs.Common.{◌≡◌, suc, Bool, true, false, cond, List, [],
 use Rattle.std.specs.Prelude.{not}
 use Rattle.std.proofs.lemmas.List.{length-append}
 use Rattle.std.proofs.lemmas.Simd.{length-zip2}
-use Rattle.run_code.specs.Edges.{edges}
-use Rattle.run_code.proofs.EdgeBits.{xor, one_mask}
+use Rattle.run_code.specs.Runs.{edges}
+use Rattle.run_code.proofs.EdgeWords.{xor, one_mask}
 use Rattle.packet_decode.specs.PacketReading.{from_edges}
 
 -- there are as many edges as places

@@ -1,25 +1,28 @@
--- Reading the first part of a packet is exact: the recent changes, the level and the directions.
-use Rattle.std.proofs.Common.{◌≡◌, ℕ, ◌<◌, ltb, Bool, true, false, cond, List, [], ◌∷◌, ◌++◌, length, Option, Some, None, refl, sym, ap, ◌∙◌, subst, arith}
-use Rattle.std.specs.Prelude.{◌&&◌, IfSome, Contains}
+-- Reading the first part of a packet is exact: the recent changes, the level, and the directions or none.
 use Rattle.std.specs.List.{list_any}
-use Rattle.std.proofs.lemmas.Bool.{true≢false, ltb-true, lt-ltb}
-use Rattle.std.proofs.lemmas.List.{get_or_default}
+use Rattle.std.specs.Prelude.{◌&&◌, IfSome, Contains}
+use Rattle.std.proofs.Common.{◌≡◌, ℕ, ◌<◌, ltb, Bool, true, false, cond, List, [], ◌∷◌, ◌++◌, length, Option, Some, None, refl, sym, ap, ◌∙◌, subst, arith, replicate, take, drop, zero, suc}
+use Rattle.std.proofs.lemmas.Bool.{true≢false, ltb-true, lt-ltb, false≢true}
+use Rattle.std.proofs.lemmas.List.{get_or_default, take-append-drop}
 use Rattle.std.proofs.lemmas.List.Folds.{list_any_at}
-use Rattle.bit_vectors.specs.Vectors.{number_bits, IsOne}
 use Rattle.bit_vectors.specs.Reading.{any_bit, parse_number, Read, ◌>>=◌, bit_where, allowed, IsExact}
+use Rattle.bit_vectors.specs.Vectors.{number_bits, IsOne}
 use Rattle.bit_vectors.proofs.ExactReading.{IsBitWhere, IsWordThen, IsExact-give, IsExact-bit_where, IsExact-same, IsExact-then}
-use Rattle.bit_vectors.proofs.NumberReading.{IsNumberOfWidth, IsExact-number_at}
 use Rattle.bit_vectors.proofs.Lists.{one_in}
+use Rattle.bit_vectors.proofs.NumberBits.{IsNumberOfWidth, IsExact-number_at}
 use Rattle.run_code.specs.Extraction.{bits_up, IsInverseWord, parse_inverse}
 use Rattle.run_code.specs.Runs.{run_bits, IsRunWordOf, parse_vector}
-use Rattle.run_code.proofs.Ones.{one_within}
-use Rattle.run_code.proofs.ExactRuns.{IsExact-vector_at}
 use Rattle.run_code.proofs.InverseBits.{IsExact-inverse_at}
+use Rattle.run_code.proofs.Ones.{one_within}
+use Rattle.run_code.proofs.RunWords.{IsExact-vector_at, run_bits-zeros}
+use Rattle.robust_window.proofs.Ranges.{list_any-zeros, no_ones, some_one}
 use Rattle.packet_encode.specs.Forms.{Directions, Part, Form, AreDirections, direction_bits, change_bits}
-use Rattle.packet_decode.specs.State.{Change, change_of}
 use Rattle.packet_decode.specs.PacketReading.{parse_named, parse_directions, parse_change}
 use Rattle.packet_decode.specs.PartWords.{IsBitThen}
+use Rattle.packet_decode.specs.State.{Change, change_of}
 use Rattle.packet_decode.proofs.Readers.{HasWord, IsImage, IsExact-map, IsExact-bit, any_may}
+
+-- ---- reading the first part of a packet is exact: the recent changes, the level and the directions
 
 -- a form with these recent changes and this level
 abbrev pub bare : List Bool → ℕ → Form
@@ -215,3 +218,47 @@ IsExact-change_at f =
     (IsExact-vector_at f)
     (λ recent word w. IsExact-level recent)
     (λ recent word w. zero_level recent))
+
+-- ---- the recent changes by their first two bits: the run word of a vector without a 1, and no other, begins with its end
+
+-- the end comes first
+pub nothing_comes : (v bits : List Bool) → v ≡ replicate (length v) false → take 2 bits ≡ number_bits 2 2 → parse_vector (length v) bits ≡ Read v (drop 2 bits)
+nothing_comes v bits zeros front =
+    let parts : bits ≡ run_bits v ++ drop 2 bits =
+    sym (take-append-drop 2 bits) ∙ ap (λ (b : List Bool). b ++ drop 2 bits) (front ∙ sym (run_bits-zeros v zeros)) in
+    ap (parse_vector (length v)) parts ∙ (IsExact-vector_at (length v)).reads v (run_bits v) (drop 2 bits) (refl, refl)
+
+end_first : (rest : List Bool) → take 2 (number_bits 2 2 ++ rest) ≡ number_bits 2 2
+unfolding number_bits
+end_first rest = refl
+
+-- it doesn't
+pub one_comes : (v bits rest : List Bool) → bits ≡ run_bits v ++ rest → (take 2 bits ≡ number_bits 2 2 → ⊥) → Contains v true
+one_comes v bits rest word other = by_ones (list_any (λ (bit : Bool). bit) v) refl
+  where
+    by_ones : (any : Bool) → list_any (λ (bit : Bool). bit) v ≡ any → Contains v true
+    by_ones true is = some_one v is
+    by_ones false is = absurd (other (ap (take 2) (word ∙ ap (λ (w : List Bool). w ++ rest) (run_bits-zeros v (no_ones v is))) ∙ end_first rest))
+
+-- zeros have no 1
+pub no_one : (v : List Bool) → v ≡ replicate (length v) false → Contains v true → ⊥
+no_one v zeros one =
+    false≢true (sym (ap (list_any (λ (bit : Bool). bit)) zeros ∙ list_any-zeros (length v)) ∙ list_any_at (λ (bit : Bool). bit) v one.0 true one.1 one.2)
+
+-- ---- when no directions can be sent
+
+nor : (bit : Bool) → (bit && false) ≡ false
+nor true = refl
+nor false = refl
+
+-- without a change
+pub no_change : (recent : List Bool) (level : ℕ) (bits : List Bool) → recent ≡ replicate (length recent) false → parse_directions recent level bits ≡ Read None bits
+unfolding parse_directions
+no_change recent level bits none =
+    let any : list_any (λ (bit : Bool). bit) recent ≡ false = rw none (list_any-zeros (length recent)) in
+    rw any refl
+
+-- at level 0
+pub no_level : (recent bits : List Bool) → parse_directions recent 0 bits ≡ Read None bits
+unfolding parse_directions
+no_level recent bits = rw (nor (list_any (λ (bit : Bool). bit) recent)) refl

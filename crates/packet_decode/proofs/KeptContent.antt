@@ -1,16 +1,23 @@
--- Reading a content that is known outside some places.
-use Rattle.std.proofs.Common.{◌≡◌, ℕ, zero, suc, ◌+◌, ◌-◌, ◌<◌, ◌≤◌, Bool, true, false, cond, List, [], ◌∷◌, ◌++◌, length, get_or, take, drop, refl, sym, ap, ◌∙◌, arith, inl, inr}
-use Rattle.std.specs.Prelude.{not, ◌&&◌, ◌||◌}
+-- A content that is known outside some places: reading it, taking it at once, and the extracted bits.
+use Rattle.std.specs.Prelude.{◌||◌, count_by}
+use Rattle.std.proofs.Common.{◌≡◌, ℕ, zero, suc, ◌+◌, ◌-◌, ◌<◌, ◌≤◌, Bool, true, false, cond, List, [], ◌∷◌, ◌++◌, length, get_or, take, drop, refl, sym, ap, ◌∙◌, arith, inl, inr, ◌↔◌, not, ◌&&◌, Result, Ok, Err, IsErr, IfErr, OnOk, set}
 use Rattle.std.proofs.lemmas.Bool.{cases_lt}
-use Rattle.std.proofs.lemmas.List.{length-take, take-append-drop, get_or_append_left, get_or-take, get_or-append_right, get_or-drop, drop_all, append-nil}
+use Rattle.std.proofs.lemmas.List.{length-take, take-append-drop, get_or_append_left, get_or-take, get_or-append_right, get_or-drop, drop_all, append-nil, length-drop, get_or_past, drop_at}
 use Rattle.std.proofs.lemmas.Simd.{length-zip2}
+use Rattle.bit_vectors.specs.Reading.{Read, WrongBit, TooShort, ◌>>=◌, bit_where, allowed, IsExact, EyeState, bits_left, Gives, parse_front}
 use Rattle.bit_vectors.specs.Vectors.{xor_bits, without_bits}
+use Rattle.bit_vectors.specs.declared.fault.BitFault.{BitFault}
+use Rattle.bit_vectors.specs.declared.fault.BitFault.TheVariants.{Wrong, EndsEarly}
+use Rattle.bit_vectors.proofs.ExactReading.{IsBitWhere, IsWordThen, IsExact-give, IsExact-bit_where, IsExact-same, IsExact-then, read_same}
+use Rattle.bit_vectors.proofs.FrontReading.{parse_front-enough, parse_front-short}
 use Rattle.bit_vectors.proofs.Places.{get_or-zip2_all}
-use Rattle.bit_vectors.specs.Reading.{Read, WrongBit, TooShort, ◌>>=◌, bit_where, allowed, IsExact}
-use Rattle.bit_vectors.proofs.ExactReading.{IsBitWhere, IsWordThen, IsExact-give, IsExact-bit_where, IsExact-same, IsExact-then}
-use Rattle.run_code.specs.Extraction.{SameOutside}
-use Rattle.packet_decode.specs.PacketReading.{parse_kept}
+use Rattle.run_code.specs.Extraction.{SameOutside, places_down, parse_filled}
+use Rattle.run_code.proofs.Filling.{parse_filled-no_wrong, parse_filled-read, parse_filled-short}
+use Rattle.run_code.proofs.Ones.{length-places_down}
+use Rattle.packet_decode.specs.PacketReading.{parse_kept, Tells, Outcome}
 use Rattle.packet_decode.proofs.Readers.{IsImage, IsExact-map}
+
+-- ---- reading a content that is known outside some places
 
 -- a content that has the known bit at each place but these, and its bits
 abbrev pub IsKept : List Bool → List Bool → List Bool → List Bool → Type 0
@@ -186,3 +193,110 @@ module _ (places known content : List Bool) (known_places : length content ≡ l
 
   pub same_at_place : (k : ℕ) → get_or (without_bits (xor_bits content known) places) k false ≡ false → get_or places k false ≡ false → get_or content k false ≡ get_or known k false
   same_at_place k none bound = same_parts (get_or content k false) (get_or known k false) (get_or places k false) (sym (differ_at k) ∙ none) bound
+
+-- ---- what a content that was taken at once tells, by where it differs from the known one
+
+module _ (places known content : List Bool) (old new : EyeState) (len : length places ≡ length known) (content_len : length content ≡ length known)
+    (taken : content ≡ take (length known) (bits_left old) ++ drop (length (bits_left old)) known) where
+  abbrev differences : List Bool
+  differences = without_bits (xor_bits content known) places
+
+  places_len : length content ≡ length places
+  places_len = content_len ∙ sym len
+
+  differences_len : length differences ≡ length known
+  differences_len =
+      let xor_len : length (xor_bits content known) ≡ length content = length-zip2 (λ (a b : Bool). cond a (not b) b) content known content_len in
+      length-zip2 (λ (a b : Bool). a && not b) (xor_bits content known) places (xor_len ∙ places_len) ∙ xor_len ∙ content_len
+
+  is_place : (p : ℕ) → get_or differences p false ≡ true → p < length known
+  is_place p one = elim (cases_lt p (length known)) [
+    | inl lt ↦ lt
+    | inr past ↦ let none = get_or_past differences p false (omega (arith, differences_len)) in absurd cc
+  ]
+
+  -- the first place at which they differ
+  pub first_difference : (p : ℕ) → get_or differences p false ≡ true → ((k : ℕ) → k < p → get_or differences k false ≡ false) → (p < length (bits_left old)) × (parse_kept places known (bits_left old) ≡ WrongBit (drop (p + 1) (bits_left old)))
+  first_difference p one before =
+      let parts = differs_at places known content content_len places_len p one in
+      kept_wrong places known (bits_left old) content len taken p (is_place p one) parts.0 parts.1
+      (λ k lt bound. same_at_place places known content content_len places_len k (before k lt) bound)
+
+  pub difference_tells : (p start : ℕ) → get_or differences p false ≡ true → ((k : ℕ) → k < p → get_or differences k false ≡ false) → start ≡ old.place → new.bits ≡ old.bits
+      → Tells (λ (u : Unit {0}). content) (Err (Wrong (start + p))) new (parse_kept places known (bits_left old))
+  difference_tells p start one before at bits =
+      let first = first_difference p one before in (
+        drop (p + 1) (bits_left old),
+        first.1,
+        omega (arith, first.0, at, length-drop (p + 1) (bits_left old), length-drop old.place old.bits, ap (λ (b : List Bool). length b) bits),
+      )
+
+  same : ((k : ℕ) → 0 ≤ k → k < length differences → get_or differences k false ≡ false) → SameOutside places known content
+  same none k = same_at_place places known content content_len places_len k (elim (cases_lt k (length differences)) [
+    | inl lt ↦ none k (omega arith) lt
+    | inr past ↦ get_or_past differences k false past
+  ])
+
+  -- no place
+  pub same_tells : (result : Result (Unit {0}) BitFault) → ((k : ℕ) → 0 ≤ k → k < length differences → get_or differences k false ≡ false)
+      → OnOk result (bits_left old ≡ content ++ bits_left new) → (IsErr result ↔ (length (bits_left old) < length known)) → IfErr result (λ fault. fault ≡ EndsEarly (length old.bits)) → new.bits ≡ old.bits
+      → Tells (λ (u : Unit {0}). content) result new (parse_kept places known (bits_left old))
+  same_tells (Ok u) none all short fault bits = elim (cases_lt (length (bits_left old)) (length known)) [
+    | inl less ↦ let failed = short.1 less in absurd cc
+    | inr enough ↦
+        let rest : drop (length known) (bits_left old) ≡ bits_left new = rw all (drop_at content (bits_left new) (length known) content_len) in
+        kept_whole places known (bits_left old) content len taken enough (same none) ∙ ap (λ (r : List Bool). Read content r) rest
+  ]
+  same_tells (Err (EndsEarly n)) none all short fault bits =
+      (kept_early places known (bits_left old) content len taken (short.0 refl) (same none), let n_is : n ≡ length old.bits = cc in n_is ∙ ap (λ (b : List Bool). length b) (sym bits))
+  same_tells (Err (Wrong n)) none all short fault bits = absurd cc
+
+-- the same, of the vectors as a body makes them
+module _ (places known copied content again xored workspace : List Bool) (old new : EyeState) (places_are : length places ≡ length known) (copied_is : copied ≡ known) (content_len : length content ≡ length copied)
+    (taken : content ≡ take (length copied) (bits_left old) ++ drop (length (bits_left old)) copied) (again_is : again ≡ content) (xored_is : xored ≡ xor_bits again known) (spare_is : workspace ≡ without_bits xored places) where
+  spare_are : workspace ≡ without_bits (xor_bits content known) places
+  spare_are = spare_is ∙ ap (λ (x : List Bool). without_bits x places) (xored_is ∙ ap (λ (x : List Bool). xor_bits x known) again_is)
+
+  len_are : length content ≡ length known
+  len_are = content_len ∙ ap (λ (x : List Bool). length x) copied_is
+
+  taken_are : content ≡ take (length known) (bits_left old) ++ drop (length (bits_left old)) known
+  taken_are = rw copied_is at taken
+
+  pub place_inside : (p : ℕ) → get_or workspace p false ≡ true → ((k : ℕ) → 0 ≤ k → k < p → get_or workspace k false ≡ false) → p < length (bits_left old)
+  place_inside p one before = (first_difference places known content old new places_are len_are taken_are p (rw spare_are at one) (λ k lt. rw spare_are at (before k (omega arith) lt))).0
+
+  pub tells_place : (p start : ℕ) → get_or workspace p false ≡ true → ((k : ℕ) → 0 ≤ k → k < p → get_or workspace k false ≡ false) → start ≡ old.place → new.bits ≡ old.bits
+      → Tells (λ (u : Unit {0}). content) (Err (Wrong (start + p))) new (parse_kept places known (bits_left old))
+  tells_place p start one before = difference_tells places known content old new places_are len_are taken_are p start (rw spare_are at one) (λ k lt. rw spare_are at (before k (omega arith) lt))
+
+  pub tells_same : (result : Result (Unit {0}) BitFault) → ((k : ℕ) → 0 ≤ k → k < length workspace → get_or workspace k false ≡ false)
+      → OnOk result (bits_left old ≡ content ++ bits_left new) → (IsErr result ↔ (length (bits_left old) < length copied)) → IfErr result (λ fault. fault ≡ EndsEarly (length old.bits)) → new.bits ≡ old.bits
+      → Tells (λ (u : Unit {0}). content) result new (parse_kept places known (bits_left old))
+  tells_same result none all short = same_tells places known content old new places_are len_are taken_are result (rw spare_are at none) all (rw copied_is at short)
+
+-- ---- extracted bits that are taken into a vector are as many bits from the front of those that are left
+
+-- if the bits suffice, those after them are left
+filled_front : (places : List ℕ) (v bits : List Bool) → length places ≤ length bits → (new : List Bool) × (parse_filled places v bits ≡ Read new (drop (length places) bits))
+unfolding parse_filled
+filled_front [] v bits enough = (v, refl)
+filled_front (place ∷ places) v [] enough = absurd (omega (arith, enough))
+filled_front (place ∷ places) v (bit ∷ bits) enough = filled_front places (set v place bit) bits (omega (arith, enough))
+
+front_rest : (places : List ℕ) (v bits new rest : List Bool) → parse_filled places v bits ≡ Read new rest → drop (length places) bits ≡ rest
+front_rest places v bits new rest read =
+    let f = filled_front places v bits (parse_filled-read places v bits new rest read) in
+    (read_same f.0 new (drop (length places) bits) rest (sym f.1 ∙ read)).1
+
+-- what is told by them, whatever they are
+pub front_tells : (o : Outcome) (places v filled : List Bool) (old new : EyeState) (result : Result (Unit {0}) BitFault) → Gives (λ (u : Unit {0}). filled) result new (parse_filled (places_down places) v (bits_left old))
+    → Tells (λ (u : Unit {0}). o) result new (parse_front (count_by (λ bit. bit) places) (bits_left old) >>= λ part rest. Read o rest)
+front_tells o places v filled old new (Ok u) read =
+    let enough = parse_filled-read (places_down places) v (bits_left old) filled (bits_left new) read in
+    let left = front_rest (places_down places) v (bits_left old) filled (bits_left new) read in
+    rw (parse_front-enough (count_by (λ bit. bit) places) (bits_left old) (omega (arith, enough, length-places_down places))) (ap (Read o) (ap (λ (n : ℕ). drop n (bits_left old)) (sym (length-places_down places)) ∙ left))
+front_tells o places v filled old new (Err (Wrong bit)) gives = absurd (parse_filled-no_wrong (places_down places) v (bits_left old) (bits_left new) gives.0)
+front_tells o places v filled old new (Err (EndsEarly bit)) gives =
+    let few = parse_filled-short (places_down places) v (bits_left old) gives.0 in
+    (rw (parse_front-short (count_by (λ bit. bit) places) (bits_left old) (omega (arith, few, length-places_down places))) refl, gives.1)

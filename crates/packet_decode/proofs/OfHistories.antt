@@ -9,19 +9,16 @@ use Rattle.mask_update.specs.Histories.{History, IsValid, flags_at, input_at}
 use Rattle.mask_update.specs.Masks.{mask_at}
 use Rattle.mask_update.proofs.StepByStep.{length-mask_at}
 use Rattle.robust_window.specs.Histories.{level_at}
-use Rattle.packet_encode.specs.Forms.{change_bits, data_bits, form_bits, wide}
-use Rattle.packet_encode.specs.Packets.{sent_content, form_at, packet_at, sent_of}
+use Rattle.packet_encode.specs.Forms.{change_bits, data_bits, form_bits, wide, sent_content, form_at, packet_at, sent_of}
 use Rattle.packet_encode.specs.Deliveries.{reaches}
-use Rattle.packet_encode.proofs.OfHistories.{form_at-fits, form_at-is_form, form_bits-is}
+use Rattle.packet_encode.proofs.Packets.{form_at-fits, form_at-is_form, form_bits-is}
 use Rattle.packet_decode.specs.declared.decoder.Reading.TheVariants.{Written}
-use Rattle.packet_decode.specs.State.{KnownVector, HasVector, IsState, in_reach, mask_after, change_of, known_if}
+use Rattle.packet_decode.specs.State.{KnownVector, HasVector, IsState, in_reach, mask_after, change_of, known_if, is_content_told, is_mask_told, true_state}
 use Rattle.packet_decode.specs.Spelling.{FitsMask, HasOpaqueFront, IsKept, IsKnownContent, IsWholeContent, Spells, known_mask}
-use Rattle.packet_decode.specs.Histories.{is_content_told, is_mask_told, true_state}
 use Rattle.packet_decode.specs.PacketReading.{Spelled, Opaque, answer_of, missed, outcome_answer}
 use Rattle.packet_decode.proofs.ExactAnswers.{front_says, spelled_says}
 use Rattle.packet_decode.proofs.OneAnswer.{says_answer}
-use Rattle.packet_decode.proofs.WindowContent.{content-kept}
-use Rattle.packet_decode.proofs.WindowMask.{deduced_mask-is}
+use Rattle.packet_decode.proofs.WindowKnown.{content-kept, deduced_mask-is}
 
 -- ---- what is in reach of a step, of the vectors of earlier ones
 

@@ -10,8 +10,7 @@ use Rattle.bit_vectors.specs.declared.fault.BitFault.{BitFault}
 use Rattle.bit_vectors.specs.declared.fault.BitFault.TheVariants.{Wrong, EndsEarly}
 use Rattle.bit_vectors.specs.Reading.{Parsed, Read, WrongBit, ◌>>=◌}
 use Rattle.bit_vectors.proofs.ExactReading.{read_same}
-use Rattle.run_code.specs.Edges.{edges}
-use Rattle.run_code.specs.Runs.{run_bits}
+use Rattle.run_code.specs.Runs.{edges, run_bits}
 use Rattle.packet_encode.specs.Forms.{Content, Whole, Part, HasPlaces, Form, content_bits, data_bits, change_bits, form_bits, wide}
 use Rattle.packet_decode.specs.declared.decoder.Reading.{Reading}
 use Rattle.packet_decode.specs.declared.decoder.Reading.TheVariants.{Written, Unsynced, Gap}

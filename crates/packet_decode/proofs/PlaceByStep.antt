@@ -1,14 +1,16 @@
--- One place of mask, build and change, from step to step.
-use Rattle.std.proofs.Common.{◌≡◌, ℕ, zero, suc, ◌-◌, ◌<◌, ◌≤◌, Bool, true, false, cond, length, get_or, refl, sym, ap, ◌∙◌, inl, inr, arith}
+-- Masks from step to step: one place of mask, build and change, predictable places, and a mask without a change.
+use Rattle.std.specs.Option.{is_some}
 use Rattle.std.specs.Prelude.{not, ◌||◌}
+use Rattle.std.proofs.Common.{◌≡◌, ℕ, zero, suc, ◌-◌, ◌<◌, ◌≤◌, Bool, true, false, cond, length, get_or, refl, sym, ap, ◌∙◌, inl, inr, arith, Option, Some, None, eqb, List, [], ◌∷◌, replicate}
 use Rattle.std.proofs.lemmas.Bool.{cases_eq, cases_lt, false≢true, true≢false, or_left}
+use Rattle.std.proofs.lemmas.Grind.{common_steps}
 use Rattle.std.proofs.lemmas.List.FromFn.{length-map-range_with_len}
+use Rattle.bit_vectors.specs.Vectors.{IsOne, xor_bits, or_bits, without_bits}
 use Rattle.bit_vectors.proofs.Places.{get_or-zip2_all}
 use Rattle.mask_update.specs.Histories.{History, latest_step}
 use Rattle.mask_update.specs.Masks.{Moved, build_at, change_at, has_moved, latest_new_mask, mask_at, new_mask_at, next_mask, second_latest_new_mask}
-use Rattle.mask_update.proofs.Moves.{build_at-places, mask_at-places, place_of}
-use Rattle.mask_update.proofs.NewMasks.{latest_new_mask-le, new_mask_at-latest}
-use Rattle.mask_update.proofs.StepByStep.{length-build_at, length-mask_at, mask_at-suc, moved_at}
+use Rattle.mask_update.proofs.StepByStep.{build_at-places, mask_at-places, place_of, latest_new_mask-le, new_mask_at-latest, length-build_at, length-mask_at, mask_at-suc, moved_at}
+use Rattle.packet_decode.specs.State.{mask_after, AreRecent, sent_directions, unpredictable}
 
 -- ---- a bit over the steps
 
@@ -104,3 +106,84 @@ module _ (h : History) (place : ℕ) where
           | inl before ↦ absurd (false≢true (sym none ∙ (build_at-places h now place within_steps within).1 (s, before, le, moved)))
           | inr since ↦ (latest_new_mask h now, since, latest_new_mask-le h now, new_mask_at-latest h now (omega (arith, moved.0)))
         ]
+
+-- ---- the mask after changes above level 0, made in two steps: all changes are added, and what became predictable is taken away
+
+-- no change is predictable
+pub all_added : (mask recent : List Bool) → or_bits mask recent ≡ or_bits (without_bits mask recent) recent
+all_added [] recent = refl
+all_added (bit ∷ mask) [] = refl
+all_added (true ∷ mask) (true ∷ recent) = ap (λ (v : List Bool). true ∷ v) (all_added mask recent)
+all_added (true ∷ mask) (false ∷ recent) = ap (λ (v : List Bool). true ∷ v) (all_added mask recent)
+all_added (false ∷ mask) (true ∷ recent) = ap (λ (v : List Bool). true ∷ v) (all_added mask recent)
+all_added (false ∷ mask) (false ∷ recent) = ap (λ (v : List Bool). false ∷ v) (all_added mask recent)
+
+-- the places that became predictable are among the changes
+pub taken_away : (mask recent predictable : List Bool) → ((place : ℕ) → IsOne predictable place → IsOne recent place)
+    → without_bits (or_bits mask recent) predictable ≡ or_bits (without_bits mask recent) (without_bits recent predictable)
+taken_away [] recent predictable within = refl
+taken_away (bit ∷ mask) [] predictable within = refl
+taken_away (true ∷ mask) (change ∷ recent) [] within = refl
+taken_away (false ∷ mask) (change ∷ recent) [] within = refl
+taken_away (true ∷ mask) (true ∷ recent) (true ∷ predictable) within = ap (λ (v : List Bool). false ∷ v) (taken_away mask recent predictable (λ place. within (suc place)))
+taken_away (true ∷ mask) (true ∷ recent) (false ∷ predictable) within = ap (λ (v : List Bool). true ∷ v) (taken_away mask recent predictable (λ place. within (suc place)))
+taken_away (true ∷ mask) (false ∷ recent) (false ∷ predictable) within = ap (λ (v : List Bool). true ∷ v) (taken_away mask recent predictable (λ place. within (suc place)))
+taken_away (false ∷ mask) (true ∷ recent) (true ∷ predictable) within = ap (λ (v : List Bool). false ∷ v) (taken_away mask recent predictable (λ place. within (suc place)))
+taken_away (false ∷ mask) (true ∷ recent) (false ∷ predictable) within = ap (λ (v : List Bool). true ∷ v) (taken_away mask recent predictable (λ place. within (suc place)))
+taken_away (false ∷ mask) (false ∷ recent) (false ∷ predictable) within = ap (λ (v : List Bool). false ∷ v) (taken_away mask recent predictable (λ place. within (suc place)))
+taken_away (bit ∷ mask) (false ∷ recent) (true ∷ predictable) within = absurd (false≢true (within 0 refl))
+
+by_above : (zero : Bool) (turned made : List Bool) → (zero ≡ true → ⊥) → made ≡ cond zero turned made
+by_above true turned made above = absurd (above refl)
+by_above false turned made above = refl
+
+not_zero : (level : ℕ) → (level ≡ 0 → ⊥) → eqb level 0 ≡ true → ⊥
+not_zero level above same = above (grind (arith, common_steps))
+
+-- the mask after them, if no directions are sent
+pub mask_widened : (mask recent predictable : List Bool) (level : ℕ) (twice : Option Bool) → (level ≡ 0 → ⊥) → is_some twice ≡ false
+    → or_bits mask recent ≡ mask_after mask (record { recent = recent; level = level; directions = sent_directions twice predictable })
+mask_widened mask recent predictable level None above none = all_added mask recent ∙ by_above (eqb level 0) (xor_bits mask recent) (or_bits (without_bits mask recent) recent) (not_zero level above)
+mask_widened mask recent predictable level (Some all) above none = absurd (false≢true (sym none))
+
+-- and if they are
+pub mask_narrowed : (mask recent predictable : List Bool) (level : ℕ) (twice : Option Bool) → (level ≡ 0 → ⊥) → is_some twice ≡ true → AreRecent twice predictable recent
+    → without_bits (or_bits mask recent) predictable ≡ mask_after mask (record { recent = recent; level = level; directions = sent_directions twice predictable })
+mask_narrowed mask recent predictable level None above some within = absurd (false≢true some)
+mask_narrowed mask recent predictable level (Some all) above some within =
+    taken_away mask recent predictable (within refl) ∙ by_above (eqb level 0) (xor_bits mask recent) (or_bits (without_bits mask recent) (without_bits recent predictable)) (not_zero level above)
+
+-- ---- if nothing changed, the mask is the one before
+
+xor_none : (mask : List Bool) → xor_bits mask (replicate (length mask) false) ≡ mask
+xor_none [] = refl
+xor_none (true ∷ mask) = ap (λ (v : List Bool). true ∷ v) (xor_none mask)
+xor_none (false ∷ mask) = ap (λ (v : List Bool). false ∷ v) (xor_none mask)
+
+or_none : (mask : List Bool) → or_bits mask (replicate (length mask) false) ≡ mask
+or_none [] = refl
+or_none (true ∷ mask) = ap (λ (v : List Bool). true ∷ v) (or_none mask)
+or_none (false ∷ mask) = ap (λ (v : List Bool). false ∷ v) (or_none mask)
+
+without_none : (mask : List Bool) → without_bits mask (replicate (length mask) false) ≡ mask
+without_none [] = refl
+without_none (true ∷ mask) = ap (λ (v : List Bool). true ∷ v) (without_none mask)
+without_none (false ∷ mask) = ap (λ (v : List Bool). false ∷ v) (without_none mask)
+
+none_without : (v : List Bool) → without_bits (replicate (length v) false) v ≡ replicate (length v) false
+none_without [] = refl
+none_without (bit ∷ v) = ap (λ (w : List Bool). false ∷ w) (none_without v)
+
+none_unpredictable : (count : ℕ) (twice : Option Bool) (predictable : List Bool) → length predictable ≡ count → unpredictable (replicate count false) (sent_directions twice predictable) ≡ replicate count false
+none_unpredictable count None predictable len = refl
+none_unpredictable count (Some twice) predictable len = rw (sym len) (none_without predictable)
+
+by_level : (zero : Bool) (mask rest : List Bool) → rest ≡ replicate (length mask) false → cond zero (xor_bits mask (replicate (length mask) false)) (or_bits (without_bits mask (replicate (length mask) false)) rest) ≡ mask
+by_level true mask rest none = xor_none mask
+by_level false mask rest none = rw (none, without_none mask) (or_none mask)
+
+pub unchanged_mask : (mask recent : List Bool) (level : ℕ) (twice : Option Bool) (predictable : List Bool) → length mask ≡ length recent → length predictable ≡ length recent → recent ≡ replicate (length recent) false
+    → mask_after mask (record { recent = recent; level = level; directions = sent_directions twice predictable }) ≡ mask
+unchanged_mask mask recent level twice predictable len places none =
+    let recent_is : recent ≡ replicate (length mask) false = none ∙ ap (λ (n : ℕ). replicate n false) (sym len) in
+    rw recent_is (by_level (eqb level 0) mask (unpredictable (replicate (length mask) false) (sent_directions twice predictable)) (none_unpredictable (length mask) twice predictable (places ∙ sym len)))

@@ -2,8 +2,7 @@
 use Rattle.std.proofs.Common.{◌≡◌, ℕ, ◌-◌, Bool, true, false, cond, List, [], ◌∷◌, ◌++◌, length, refl, sym, ap, ◌∙◌, subst, arith}
 use Rattle.std.proofs.lemmas.List.{length-append, append-nil}
 use Rattle.bit_vectors.specs.Reading.{any_bit, Parsed, Read, WrongBit, TooShort, ◌>>=◌, bit_where, allowed, parse_word, IsExact}
-use Rattle.bit_vectors.proofs.ExactReading.{IsBitWhere, IsWordThen, IsExact-give, IsExact-bit_where, IsExact-same, IsExact-then}
-use Rattle.bit_vectors.proofs.SameWord.{IsExact-same_at}
+use Rattle.bit_vectors.proofs.ExactReading.{IsBitWhere, IsWordThen, IsExact-give, IsExact-bit_where, IsExact-same, IsExact-then, IsExact-same_at}
 use Rattle.packet_decode.specs.PartWords.{IsBitThen, NoWord}
 
 -- there is a word of some value

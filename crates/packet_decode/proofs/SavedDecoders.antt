@@ -6,8 +6,7 @@ use Rattle.std.proofs.lemmas.Grind.{common_steps}
 use Rattle.bit_vectors.specs.Vectors.{IsPlaces}
 use Rattle.state_bytes.specs.Parts.{BeginsVector, BeginsVectorIf, number_bytes, vector_part}
 use Rattle.state_bytes.proofs.Parts.{length-number_bytes, number_agrees, vector_agrees}
-use Rattle.packet_decode.specs.State.{HasVector, KnownVector}
-use Rattle.packet_decode.specs.Decoding.{Decoding, known_number, known_vector, latest_content, latest_mask, latest_mask_number, latest_number}
+use Rattle.packet_decode.specs.State.{HasVector, KnownVector, Decoding, known_number, known_vector, latest_content, latest_mask, latest_mask_number, latest_number}
 use Rattle.packet_decode.specs.Parts.{part_by}
 use Rattle.packet_decode.specs.Saved.{AreOfDecoding, AreThree, IsDecoding, decoding_bytes, number_and_one, numbers_before, three_parts}
 

@@ -1,21 +1,24 @@
--- The words that the reader of packets takes are those that spell a packet, and the fronts up to where they are opaque.
-use Rattle.std.proofs.Common.{◌≡◌, ℕ, Bool, true, false, List, [], ◌∷◌, ◌++◌, length, Option, Some, None, refl, sym, ap, ◌∙◌, subst, append_assoc, inl, inr, ◌⊎◌}
-use Rattle.std.specs.Prelude.{IfSome, IfNone, count_by}
+-- The words that the reader of packets takes are those that spell a packet, by the forms of the first part and the fronts up to where they are opaque.
 use Rattle.std.specs.Option.{option_map, option_or}
-use Rattle.std.proofs.lemmas.List.{append-nil}
+use Rattle.std.specs.Prelude.{IfSome, IfNone, count_by}
+use Rattle.std.proofs.Common.{◌≡◌, ℕ, Bool, true, false, List, [], ◌∷◌, ◌++◌, length, Option, Some, None, refl, sym, ap, ◌∙◌, subst, append_assoc, inl, inr, ◌⊎◌, append-nil, arith}
+use Rattle.std.proofs.lemmas.List.{length-append}
+use Rattle.bit_vectors.specs.Reading.{IsExact, Parsed, Read, TooShort, WrongBit}
 use Rattle.bit_vectors.specs.Vectors.{padded}
+use Rattle.bit_vectors.proofs.ExactReading.{IsExact-same}
 use Rattle.count_code.specs.Code.{count_bits}
-use Rattle.run_code.specs.Edges.{edges}
-use Rattle.run_code.specs.Extraction.{SameOutside}
-use Rattle.run_code.specs.Runs.{run_bits}
-use Rattle.run_code.proofs.ExtractedBits.{length-extract}
+use Rattle.run_code.specs.Extraction.{SameOutside, parse_filled, places_down}
+use Rattle.run_code.specs.Runs.{edges, run_bits}
+use Rattle.run_code.proofs.Filling.{IsExact-filled_at, parse_filled-no_wrong, parse_filled-short}
+use Rattle.run_code.proofs.InverseBits.{length-extract}
+use Rattle.run_code.proofs.Ones.{AreApart, length-places_down, places_down_apart}
 use Rattle.packet_encode.specs.Forms.{Directions, Content, Whole, Part, Form, AreDirections, HasPlaces, IsForm, data_bits, form_bits, change_bits}
+use Rattle.packet_decode.specs.PacketReading.{Outcome, Spelled, Opaque, Found, parse_change}
+use Rattle.packet_decode.specs.PartWords.{AllPlaces, IsContent, IsData, IsPart, IsWhole, places_of, KeepsOutside, IsFirstWord}
+use Rattle.packet_decode.specs.Spelling.{IsKnownContent, IsWholeContent, FitsMask, Spells, HasOpaqueFront, IsFilled}
 use Rattle.packet_decode.specs.State.{State, IsState, Change, change_of, in_reach, deduced_by, known_by, mask_after}
-use Rattle.packet_decode.specs.Spelling.{IsKnownContent, IsWholeContent, FitsMask, Spells, HasOpaqueFront}
-use Rattle.packet_decode.specs.PacketReading.{Outcome, Spelled, Opaque, Found}
-use Rattle.packet_decode.proofs.ExactChange.{bare, AreDirections-by, IsChange, change_word, change_bits_are}
-use Rattle.packet_decode.specs.PartWords.{AllPlaces, IsContent, IsData, IsPart, IsWhole, places_of}
-use Rattle.packet_decode.proofs.ExactPacket.{IsParts, IsPacket, deduced_places}
+use Rattle.packet_decode.proofs.ExactChange.{bare, AreDirections-by, IsChange, change_word, change_bits_are, IsChangeWord, IsExact-change_at}
+use Rattle.packet_decode.proofs.ExactPacket.{IsParts, IsPacket, deduced_places, filled_by}
 
 -- ---- forms
 
@@ -119,9 +122,9 @@ module _ (f : ℕ) (change : Change) where
   abbrev Sent : Option (List Bool) → Option (List Bool) → Outcome → List Bool → Type 0
   Sent deduced known o word = AreSent f change deduced known o word
 
-  sent_part : (mask word : List Bool) (deduced known sent : Option (List Bool)) (o : Outcome) (bits : List Bool) → option_or deduced sent ≡ Some mask → IfSome sent (λ m. m ≡ mask) → IfSome sent (λ m. length m ≡ f)
+  as_part : (mask word : List Bool) (deduced known sent : Option (List Bool)) (o : Outcome) (bits : List Bool) → option_or deduced sent ≡ Some mask → IfSome sent (λ m. m ≡ mask) → IfSome sent (λ m. length m ≡ f)
       → IsToldPart change mask known o bits → word ≡ data_bits sent (Part bits) → Sent deduced known o word
-  sent_part mask word deduced known sent o bits is same mask_places told parts = record {
+  as_part mask word deduced known sent o bits is same mask_places told parts = record {
     sent = sent;
     c = Part bits;
     content = told.content;
@@ -136,9 +139,9 @@ module _ (f : ℕ) (change : Change) where
     bits = parts;
   }
 
-  sent_whole : (mask word : List Bool) (deduced known sent : Option (List Bool)) (o : Outcome) (back : List Bool) → option_or deduced sent ≡ Some mask → IfSome sent (λ m. m ≡ mask) → IfSome sent (λ m. length m ≡ f)
+  as_whole : (mask word : List Bool) (deduced known sent : Option (List Bool)) (o : Outcome) (back : List Bool) → option_or deduced sent ≡ Some mask → IfSome sent (λ m. m ≡ mask) → IfSome sent (λ m. length m ≡ f)
       → (w : IsWhole f change mask known o back) → word ≡ data_bits sent (Whole w.0) → Sent deduced known o word
-  sent_whole mask word deduced known sent o back is same mask_places (content, ((len, kept), bits), told) parts = record {
+  as_whole mask word deduced known sent o back is same mask_places (content, ((len, kept), bits), told) parts = record {
     sent = sent;
     c = Whole content;
     content = Some content;
@@ -157,8 +160,8 @@ module _ (f : ℕ) (change : Change) where
   after_mask : (mask front back : List Bool) (deduced known : Option (List Bool)) (o : Outcome) → option_or deduced (Some mask) ≡ Some mask → length mask ≡ f → front ≡ run_bits (edges mask) → IsContent f change mask known o back
       → Sent deduced known o (false ∷ true ∷ (front ++ back))
   after_mask mask front [] deduced known o is len runs h = absurd h
-  after_mask mask front (true ∷ back) deduced known o is len runs h = sent_whole mask (false ∷ true ∷ (front ++ true ∷ back)) deduced known (Some mask) o back is refl len h (rw (runs, h.1.1, h.1.0.0) refl)
-  after_mask mask front (false ∷ back) deduced known o is len runs h = sent_part mask (false ∷ true ∷ (front ++ false ∷ back)) deduced known (Some mask) o back is refl len (told_part change mask known o back h) (rw runs refl)
+  after_mask mask front (true ∷ back) deduced known o is len runs h = as_whole mask (false ∷ true ∷ (front ++ true ∷ back)) deduced known (Some mask) o back is refl len h (rw (runs, h.1.1, h.1.0.0) refl)
+  after_mask mask front (false ∷ back) deduced known o is len runs h = as_part mask (false ∷ true ∷ (front ++ false ∷ back)) deduced known (Some mask) o back is refl len (told_part change mask known o back h) (rw runs refl)
 
   masked_of : (word : List Bool) (deduced known : Option (List Bool)) (o : Outcome) → AllPlaces f deduced → IsData f change deduced known o (false ∷ true ∷ word) → Sent deduced known o (false ∷ true ∷ word)
   masked_of word None known o all (mask, front, back, is, then, parts) = rw parts (after_mask mask front back None known o refl is.0 is.1 then)
@@ -168,7 +171,7 @@ module _ (f : ℕ) (change : Change) where
   sent_or_opaque : (word : List Bool) (deduced known : Option (List Bool)) (o : Outcome) → AllPlaces f deduced → IsData f change deduced known o word → AreSent f change deduced known o word ⊎ IsUnsentEnd deduced o word
   sent_or_opaque [] deduced known o all h = absurd h
   sent_or_opaque (true ∷ word) None known o all h = inr (record { none = refl; opaque = h.0; bits = rw h.1 refl })
-  sent_or_opaque (true ∷ word) (Some deduced) known o all h = inl (sent_part deduced (true ∷ word) (Some deduced) known None o word refl tt tt (told_part change deduced known o word h) refl)
+  sent_or_opaque (true ∷ word) (Some deduced) known o all h = inl (as_part deduced (true ∷ word) (Some deduced) known None o word refl tt tt (told_part change deduced known o word h) refl)
   sent_or_opaque (false ∷ []) deduced known o all h = absurd h
   sent_or_opaque (false ∷ true ∷ word) deduced known o all h = inl (masked_of word deduced known o all h)
   sent_or_opaque (false ∷ false ∷ []) None known o all h = absurd h
@@ -183,7 +186,7 @@ module _ (f : ℕ) (change : Change) where
     content_places = len;
     bits = rw (bits, len) refl;
   })
-  sent_or_opaque (false ∷ false ∷ true ∷ word) (Some deduced) known o all h = inl (sent_whole deduced (false ∷ false ∷ true ∷ word) (Some deduced) known None o word refl tt tt h (rw (h.1.1, h.1.0.0) refl))
+  sent_or_opaque (false ∷ false ∷ true ∷ word) (Some deduced) known o all h = inl (as_whole deduced (false ∷ false ∷ true ∷ word) (Some deduced) known None o word refl tt tt h (rw (h.1.1, h.1.0.0) refl))
   sent_or_opaque (false ∷ false ∷ false ∷ word) None known o all h = absurd h
   sent_or_opaque (false ∷ false ∷ false ∷ word) (Some deduced) known o all h = absurd h
 
@@ -301,3 +304,71 @@ module _ (f : ℕ) (state : State) (t : ℕ) (has : IsState f state) where
         o.level_is,
         o.bits_are ∙ sym (append_assoc (change_bits o.form) (true ∷ []) o.rest),
       )
+
+-- ---- the first part by its forms, and what is sent as a word of the other parts
+
+first_joined : (f : ℕ) (change : Change) (word : List Bool) → IsChangeWord f change word → IsFirstWord f change word
+first_joined f change word (is, bits) = (
+  record { recent = change.recent; level = change.level; directions = change.directions; sent = None; content = Part [] },
+  is_form f change None (Part []) is tt tt,
+  refl,
+  bits ∙ sym (change_bits_are (record { recent = change.recent; level = change.level; directions = change.directions; sent = None; content = Part [] })),
+)
+
+first_apart : (f : ℕ) (change : Change) (word : List Bool) → IsFirstWord f change word → IsChangeWord f change word
+first_apart f change word (form, is, same, bits) =
+    subst (λ (c : Change). IsChangeWord f c word) same (is_change f form is, bits ∙ change_bits_are form)
+
+pub IsExact-first : (f : ℕ) → IsExact (IsFirstWord f) (parse_change f)
+IsExact-first f = IsExact-same (IsChangeWord f) (IsFirstWord f) (parse_change f) (first_joined f) (first_apart f) (IsExact-change_at f)
+
+-- ---- what is sent, as a word of the parts after the first
+
+pub deduced_whole : (f : ℕ) (change : Change) (mask content : List Bool) (known sent : Option (List Bool)) → IfSome sent (λ m. m ≡ mask) → KeepsOutside f (places_of change mask) known content
+    → IsData f change (Some mask) known (Spelled (Some mask) (Some content)) (data_bits sent (Whole content))
+deduced_whole f change mask content known None same agrees = (content, (agrees, rw agrees.0 refl), refl)
+deduced_whole f change mask content known (Some m) same agrees =
+    (mask, run_bits (edges mask), true ∷ (count_bits (length content) ++ content), (refl, refl), (content, (agrees, rw agrees.0 refl), refl), rw same refl)
+
+pub deduced_part : (f : ℕ) (change : Change) (mask known bits content : List Bool) (sent : Option (List Bool)) → IfSome sent (λ m. m ≡ mask) → IsFilled (places_of change mask) known bits content
+    → IsData f change (Some mask) (Some known) (Spelled (Some mask) (Some content)) (data_bits sent (Part bits))
+deduced_part f change mask known bits content None same filled = (content, filled, refl)
+deduced_part f change mask known bits content (Some m) same filled = (mask, run_bits (edges mask), false ∷ bits, (refl, refl), (content, filled, refl), rw same refl)
+
+pub deduced_mask_alone : (f : ℕ) (change : Change) (mask bits : List Bool) (sent : Option (List Bool)) → IfSome sent (λ m. m ≡ mask) → length bits ≡ count_by (λ bit. bit) (places_of change mask)
+    → IsData f change (Some mask) None (Spelled (Some mask) None) (data_bits sent (Part bits))
+deduced_mask_alone f change mask bits None same fits = (refl, fits)
+deduced_mask_alone f change mask bits (Some m) same fits = (mask, run_bits (edges mask), false ∷ bits, (refl, refl), (refl, fits), rw same refl)
+
+pub sent_whole : (f : ℕ) (change : Change) (mask content : List Bool) (known : Option (List Bool)) → length mask ≡ f → KeepsOutside f (places_of change mask) known content
+    → IsData f change None known (Spelled (Some mask) (Some content)) (data_bits (Some mask) (Whole content))
+sent_whole f change mask content known len agrees = (mask, run_bits (edges mask), true ∷ (count_bits (length content) ++ content), (len, refl), (content, (agrees, rw agrees.0 refl), refl), refl)
+
+pub sent_part : (f : ℕ) (change : Change) (mask known bits content : List Bool) → length mask ≡ f → IsFilled (places_of change mask) known bits content
+    → IsData f change None (Some known) (Spelled (Some mask) (Some content)) (data_bits (Some mask) (Part bits))
+sent_part f change mask known bits content len filled = (mask, run_bits (edges mask), false ∷ bits, (len, refl), (content, filled, refl), refl)
+
+pub sent_mask_alone : (f : ℕ) (change : Change) (mask bits : List Bool) → length mask ≡ f → length bits ≡ count_by (λ bit. bit) (places_of change mask)
+    → IsData f change None None (Spelled (Some mask) None) (data_bits (Some mask) (Part bits))
+sent_mask_alone f change mask bits len fits = (mask, run_bits (edges mask), false ∷ bits, (len, refl), (refl, fits), refl)
+
+pub content_alone : (f : ℕ) (change : Change) (content : List Bool) (known : Option (List Bool)) → length content ≡ f → IsData f change None known (Spelled None (Some content)) (data_bits None (Whole content))
+content_alone f change content known len = (content, ((len, tt), rw len refl), refl)
+
+-- ---- any bits fill the extracted places
+
+all_read : (bits word rest : List Bool) → bits ≡ word ++ rest → length word ≡ length bits → bits ≡ word
+all_read bits word [] parts len = parts ∙ append-nil word
+all_read bits word (bit ∷ rest) parts len = absurd (omega (arith, ap length parts, length-append word (bit ∷ rest)))
+
+pub filled : (places known bits : List Bool) → length known ≡ length places → length bits ≡ count_by (λ bit. bit) places → (content : List Bool) × IsFilled places known bits content
+filled places known bits len fits = by (parse_filled (places_down places) known bits) refl
+  where
+    by : (r : Parsed (List Bool)) → parse_filled (places_down places) known bits ≡ r → (content : List Bool) × IsFilled places known bits content
+    by (Read content rest) read =
+        let apart : AreApart (places_down places) (length known) = rw len (places_down_apart places) in
+        let (word, is, parts) = (IsExact-filled_at (places_down places) known apart).read_is bits content rest read in
+        let whole : bits ≡ word = all_read bits word rest parts (ap length is.1 ∙ length-extract content places ∙ sym fits) in
+        (content, filled_by places known bits content (is.0, whole ∙ is.1))
+    by (WrongBit rest) wrong = absurd (parse_filled-no_wrong (places_down places) known bits rest wrong)
+    by TooShort short = absurd (omega (arith, parse_filled-short (places_down places) known bits short, length-places_down places))

@@ -4,17 +4,17 @@ use Rattle.std.specs.Prelude.{IfSome, IfNone}
 use Rattle.std.proofs.lemmas.Bool.{cases_lt}
 use Rattle.std.proofs.lemmas.List.{length-append, append-nil}
 use Rattle.bit_vectors.specs.Vectors.{byte_count, bits_of, padded, vector_bytes}
-use Rattle.bit_vectors.proofs.ByteBits.{length-vector_bytes, AreBytes-vector_bytes, bits_of-vector_bytes}
+use Rattle.bit_vectors.proofs.NumberBits.{length-vector_bytes, AreBytes-vector_bytes, bits_of-vector_bytes}
 use Rattle.bit_vectors.proofs.ExactReading.{cut_longer}
 use Rattle.packet_encode.specs.Forms.{Content, Whole, Part, Form, HasPlaces, FitsPlaces, change_bits, form_bits, wide}
-use Rattle.packet_encode.proofs.Bounds.{HasMost, change_bits-most, form_bits-most, ones_most}
+use Rattle.packet_encode.proofs.Packets.{HasMost, change_bits-most, form_bits-most, ones_most}
 use Rattle.packet_decode.specs.declared.decoder.Reading.{Reading}
 use Rattle.packet_decode.specs.State.{State, IsState, change_of, known_by}
 use Rattle.packet_decode.specs.Spelling.{IsWholeContent, FitsMask, Spells, HasOpaqueFront}
 use Rattle.packet_decode.specs.Answers.{SpellsPacket, IsOpaque, Viable, Says, BeginReadable}
 use Rattle.packet_decode.specs.PacketReading.{Spelled, Opaque, outcome_answer}
 use Rattle.packet_decode.specs.PartWords.{AllPlaces}
-use Rattle.packet_decode.proofs.ExactData.{length-places_of}
+use Rattle.packet_decode.proofs.ExactPacket.{length-places_of}
 use Rattle.packet_decode.proofs.ExactAnswers.{spelled_says, front_says}
 use Rattle.packet_decode.proofs.OneAnswer.{says_means, spelled_places}
 

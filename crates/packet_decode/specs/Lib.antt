@@ -1,10 +1,7 @@
-pub mod State
 pub mod Spelling
 pub mod Answers
 pub mod PacketReading
 pub mod PartWords
-pub mod Directions
 pub mod Parts
-pub mod Decoding
-pub mod Histories
+pub mod State
 pub mod Saved

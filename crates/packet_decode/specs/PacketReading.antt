@@ -4,13 +4,10 @@ use Rattle.std.specs.List.{list_any}
 use Rattle.bit_vectors.specs.declared.fault.BitFault.{BitFault}
 use Rattle.bit_vectors.specs.declared.fault.BitFault.TheVariants.{Wrong, EndsEarly}
 use Rattle.bit_vectors.specs.Vectors.{byte_count}
-use Rattle.bit_vectors.specs.Eye.{EyeState, bits_left}
-use Rattle.bit_vectors.specs.Reading.{Parsed, Read, WrongBit, TooShort, ◌>>=◌, any_bit, bit_where, allowed, parse_front, parse_number, parse_word}
+use Rattle.bit_vectors.specs.Reading.{EyeState, bits_left, Parsed, Read, WrongBit, TooShort, ◌>>=◌, any_bit, bit_where, allowed, parse_front, parse_number, parse_word}
 use Rattle.count_code.specs.Code.{count_bits}
-use Rattle.run_code.specs.Places.{places_down}
-use Rattle.run_code.specs.Edges.{edges}
-use Rattle.run_code.specs.Extraction.{parse_filled, parse_inverse}
-use Rattle.run_code.specs.Runs.{run_bits, parse_vector}
+use Rattle.run_code.specs.Extraction.{places_down, parse_filled, parse_inverse}
+use Rattle.run_code.specs.Runs.{edges, run_bits, parse_vector}
 use Rattle.packet_encode.specs.Forms.{Directions, wide_by}
 use Rattle.packet_decode.specs.declared.decoder.Reading.{Reading}
 use Rattle.packet_decode.specs.declared.decoder.Reading.TheVariants.{Written, Unsynced, Gap}

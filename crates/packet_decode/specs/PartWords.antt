@@ -2,9 +2,8 @@
 -- content or none, and on no state.
 use Rattle.std.specs.Prelude.{◌≡◌, ℕ, Bool, true, false, List, [], ◌∷◌, ◌++◌, length, count_by, Option, None, Some, IfSome}
 use Rattle.count_code.specs.Code.{count_bits}
-use Rattle.run_code.specs.Edges.{edges}
+use Rattle.run_code.specs.Runs.{edges, run_bits}
 use Rattle.run_code.specs.Extraction.{SameOutside}
-use Rattle.run_code.specs.Runs.{run_bits}
 use Rattle.packet_encode.specs.Forms.{Form, IsForm, change_bits, wide_by}
 use Rattle.packet_decode.specs.State.{Change, change_of}
 use Rattle.packet_decode.specs.Spelling.{IsFilled}

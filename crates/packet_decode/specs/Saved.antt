@@ -2,8 +2,7 @@
 use Rattle.std.specs.Prelude.{◌≡◌, ℕ, ◌+◌, ◌*◌, ◌<◌, ◌≤◌, ◌^◌, false, Bool, List, ◌∷◌, ◌++◌, length, replicate, Option, None, Some, IfNone}
 use Rattle.bit_vectors.specs.Vectors.{IsPlaces}
 use Rattle.state_bytes.specs.Parts.{number_bytes, vector_part, vector_room}
-use Rattle.packet_decode.specs.State.{IsState}
-use Rattle.packet_decode.specs.Decoding.{Decoding, latest_content, latest_mask, latest_mask_number, latest_number}
+use Rattle.packet_decode.specs.State.{IsState, Decoding, latest_content, latest_mask, latest_mask_number, latest_number}
 
 -- The number of a packet and one more, and 0 if there is none.
 abbrev pub number_and_one : Option ℕ → ℕ

@@ -1,8 +1,17 @@
--- What a decoder knows, and what a packet's first part says of the mask by that (CCSDS 124.0-B-1).
-use Rattle.std.specs.Prelude.{◌≡◌, ◌==◌, ℕ, ◌-◌, nat_le, Bool, true, false, if◌then◌else◌, List, length, Option, None, Some, IfSome}
+-- What a decoder knows and is, and what a packet's first part says of the mask by that (CCSDS 124.0-B-1).
 use Rattle.std.specs.Option.{option_map}
-use Rattle.bit_vectors.specs.Vectors.{xor_bits, or_bits, without_bits}
+use Rattle.std.specs.Prelude.{◌≡◌, ◌==◌, ℕ, ◌-◌, nat_le, Bool, true, false, if◌then◌else◌, List, length, Option, None, Some, IfSome, ◌<◌, replicate, Result, Ok, Err, unwrap_or, ◌&&◌, ◌||◌, IsSome}
+use Rattle.bit_vectors.specs.Vectors.{xor_bits, or_bits, without_bits, IsOne}
+use Rattle.bit_vectors.specs.declared.fault.BitFault.{BitFault}
+use Rattle.mask_update.specs.Histories.{History, flags_at, input_at}
+use Rattle.mask_update.specs.Masks.{mask_at}
+use Rattle.robust_window.specs.Histories.{level_at}
+use Rattle.packet_encode.specs.Deliveries.{reaches}
 use Rattle.packet_encode.specs.Forms.{Directions, Form}
+use Rattle.packet_decode.specs.declared.decoder.Reading.{Reading}
+use Rattle.packet_decode.specs.declared.decoder.Reading.TheVariants.{Written, Unsynced, Gap}
+
+-- ---- what a decoder knows, and what a packet's first part says of the mask by that (CCSDS 124.0-B-1)
 
 -- a vector that became known, and the number of the packet with which it did
 pub record KnownVector : Type 0 where
@@ -89,3 +98,80 @@ deduced_by state t change = option_map (λ mask. mask_after mask change) (in_rea
 -- the known content, if it is in reach
 abbrev pub known_by : State → ℕ → Change → Option (List Bool)
 known_by state t change = in_reach state.content t change.level
+
+-- ---- what a decoder is: the number of places of its vectors, the known mask and the known content, and the recent changes of
+-- the mask and the effective robustness level of the latest written packet, which are zero before the first
+
+pub record Decoding : Type 0 where
+  pub places : ℕ
+  pub state : State
+  pub recent : List Bool
+  pub level : ℕ
+
+-- the number of the packet with which it became known
+abbrev pub known_number : Option KnownVector → Option ℕ
+known_number part = option_map (λ known. known.number) part
+
+-- the vector that became known, and zeros before the first
+abbrev pub known_vector : ℕ → Option KnownVector → List Bool
+known_vector f part = unwrap_or (option_map (λ known. known.vector) part) (replicate f false)
+
+-- the number of the latest written packet
+abbrev pub latest_number : State → Option ℕ
+latest_number state = known_number state.content
+
+-- the number of the latest packet whose mask became known
+abbrev pub latest_mask_number : State → Option ℕ
+latest_mask_number state = known_number state.mask
+
+-- this number is greater than those of the packets with which the mask and the content became known
+pub record IsAfter (t : ℕ) (state : State) : Type 0 where
+  pub content : IfSome (latest_number state) (λ last. last < t)
+  pub mask : IfSome (latest_mask_number state) (λ last. last < t)
+
+-- the latest mask that became known, and zeros before the first
+abbrev pub latest_mask : ℕ → State → List Bool
+latest_mask f state = known_vector f state.mask
+
+-- the content of the latest written packet, and zeros before the first
+abbrev pub latest_content : ℕ → State → List Bool
+latest_content f state = known_vector f state.content
+
+-- the data say nothing that becomes known
+abbrev pub tells_nothing : Result Reading BitFault → Bool
+tells_nothing (Ok Written) = false
+tells_nothing (Ok (Unsynced true)) = false
+tells_nothing (Ok (Unsynced false)) = true
+tells_nothing (Ok (Gap level true)) = false
+tells_nothing (Ok (Gap level false)) = true
+tells_nothing (Err fault) = true
+
+-- ---- the packets of a history, as a decoder knows them
+
+-- the state of a decoder that knows the mask of this step and the input of that one, or none
+abbrev pub true_state : History → Option ℕ → Option ℕ → State
+true_state h mask content = record {
+  mask = option_map (λ s. record { number = s; vector = mask_at h s }) mask;
+  content = option_map (λ s. record { number = s; vector = input_at h s }) content;
+}
+
+-- The packet of a step tells its mask, when the latest known one is that of this step: it carries the mask, or its
+-- effective robustness level reaches that one.
+abbrev pub is_mask_told : History → Option ℕ → ℕ → Bool
+is_mask_told h mask t = (flags_at h t).f || reaches mask t (level_at h t)
+
+-- It tells its content, when the latest known mask and content are of these steps: it carries the whole content, or it
+-- tells its mask and its effective robustness level reaches that content.
+abbrev pub is_content_told : History → Option ℕ → Option ℕ → ℕ → Bool
+is_content_told h mask content t = (flags_at h t).r || is_mask_told h mask t && reaches content t (level_at h t)
+
+-- ---- the directions of the recent changes, as they are taken
+
+-- directions, if it was sent whether all recent changes are extracted
+abbrev pub sent_directions : Option Bool → List Bool → Option Directions
+sent_directions None predictable = None
+sent_directions (Some twice) predictable = Some (record { predictable = predictable; twice = twice })
+
+-- if directions are sent, what became predictable are recent changes
+abbrev pub AreRecent : Option Bool → List Bool → List Bool → Type 0
+AreRecent twice predictable recent = IsSome twice → (place : ℕ) → IsOne predictable place → IsOne recent place

@@ -3,8 +3,7 @@
 
 ghost use Rattle.std.specs.Prelude.{◌≡◌, ◌<◌, ◌↔◌, ℕ, false, Bool, List, length, replicate, None, IfOk, IsTrue};
 ghost use Rattle.std.specs.Bool.{OnFalse, OnTrue};
-ghost use Rattle.bit_vectors.specs.Eye.{bits_left};
-ghost use Rattle.bit_vectors.specs.Reading.{MovesOn, Gives};
+ghost use Rattle.bit_vectors.specs.Reading.{bits_left, MovesOn, Gives};
 ghost use Rattle.run_code.specs.Runs.{parse_vector};
 ghost use Rattle.packet_encode.specs.Forms.{wide_by};
 ghost use Rattle.packet_decode.specs.State.{mask_after};
@@ -38,8 +37,7 @@ pub struct FirstPart {
 impl Model for FirstPart {
     ghost use Rattle.std.specs.Prelude.{◌≡◌, ◌<◌, ◌↔◌, false, true, length, replicate, Contains, IsTrue};
     ghost use Rattle.std.specs.Bool.{OnFalse};
-    ghost use Rattle.packet_decode.specs.State.{Change};
-    ghost use Rattle.packet_decode.specs.Directions.{AreRecent, sent_directions};
+    ghost use Rattle.packet_decode.specs.State.{Change, AreRecent, sent_directions};
 
     ghost Value = { Change };
 

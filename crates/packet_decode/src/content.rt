@@ -1,10 +1,8 @@
 //! The content of a packet: all of it, or its extracted bits (CCSDS 124.0-B-1).
 
 ghost use Rattle.std.specs.Prelude.{◌≡◌, true, length, None, Some};
-ghost use Rattle.bit_vectors.specs.Eye.{bits_left};
-ghost use Rattle.bit_vectors.specs.Reading.{Gives, MovesOn};
-ghost use Rattle.run_code.specs.Extraction.{parse_filled};
-ghost use Rattle.run_code.specs.Places.{places_down};
+ghost use Rattle.bit_vectors.specs.Reading.{bits_left, Gives, MovesOn};
+ghost use Rattle.run_code.specs.Extraction.{parse_filled, places_down};
 ghost use Rattle.packet_encode.specs.Forms.{wide_by};
 ghost use Rattle.packet_decode.specs.PacketReading.{parse_kept, parse_whole_with, parse_whole_alone, parse_part_with, parse_content, Spelled};
 ghost use Rattle.packet_decode.specs.Parts.{IsReady, TakesPart, lent, content_outcome};

@@ -2,8 +2,7 @@
 //! (CCSDS 124.0-B-1).
 
 ghost use Rattle.std.specs.Prelude.{◌≡◌, Bool, List, length, IfOk, IsSome};
-ghost use Rattle.bit_vectors.specs.Eye.{bits_left};
-ghost use Rattle.bit_vectors.specs.Reading.{MovesOn};
+ghost use Rattle.bit_vectors.specs.Reading.{bits_left, MovesOn};
 ghost use Rattle.packet_decode.specs.PacketReading.{Tells, parse_unsent, parse_maskless, parse_masked, parse_data};
 ghost use Rattle.packet_decode.specs.Parts.{IsReadyForMask, IsDeduced, IsReady, TakesPart, lent, outcome_of};
 

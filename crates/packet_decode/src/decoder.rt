@@ -4,14 +4,13 @@ ghost use Rattle.std.specs.Prelude.{[], ℕ, ◌≡◌, ◌+◌, ◌^◌, ◌<�
 ghost use Rattle.bit_vectors.specs.Vectors.{IsPlaces, IsVector, bits_of};
 ghost use Rattle.bit_vectors.specs.Reading.{Read};
 ghost use Rattle.packet_encode.specs.Forms.{Form};
-ghost use Rattle.packet_decode.specs.State.{IsState, in_reach, next_state, no_vectors};
+ghost use Rattle.packet_decode.specs.State.{IsState, in_reach, next_state, no_vectors, Decoding, IsAfter, latest_number, latest_mask_number, latest_mask, latest_content, tells_nothing};
 ghost use Rattle.packet_decode.specs.Spelling.{Spells};
 ghost use Rattle.packet_decode.specs.Answers.{Says, IsExactAnswer};
 ghost use Rattle.packet_decode.specs.PacketReading.{Spelled, missed, parse_whole_packet};
 ghost use Rattle.packet_decode.specs.Parts.{IsAtLevel, IsBefore, IsDeduced, IsRemembered, kept_state, part_by, tells_mask};
 ghost use Rattle.state_bytes.specs.Parts.{Puts};
 ghost use Rattle.packet_decode.specs.Saved.{AreNumbers, AreOfDecoding, IsDecoding, decoding_bytes, decoding_room};
-ghost use Rattle.packet_decode.specs.Decoding.{Decoding, IsAfter, latest_number, latest_mask_number, latest_mask, latest_content, tells_nothing};
 
 use crate::change::FirstPart;
 use crate::draft::Room;
@@ -51,7 +50,7 @@ pub struct Decoder {
 
 impl Model for Decoder {
     ghost use Rattle.std.specs.Prelude.{length};
-    ghost use Rattle.packet_decode.specs.Decoding.{Decoding};
+    ghost use Rattle.packet_decode.specs.State.{Decoding};
     ghost use Rattle.packet_decode.specs.Parts.{IsDecoder, kept_state};
 
     ghost Value = { Decoding };

@@ -1,8 +1,7 @@
 //! The mask of a packet, by the runs of its edges (CCSDS 124.0-B-1).
 
 ghost use Rattle.std.specs.Prelude.{◌≡◌, length, None, Some};
-ghost use Rattle.bit_vectors.specs.Eye.{bits_left};
-ghost use Rattle.bit_vectors.specs.Reading.{MovesOn, Gives};
+ghost use Rattle.bit_vectors.specs.Reading.{bits_left, MovesOn, Gives};
 ghost use Rattle.packet_decode.specs.PacketReading.{parse_mask};
 
 use bit_vectors::{BitEye, BitFault, Bits};

@@ -2,8 +2,7 @@
 //! opaque front is not looked at.
 
 ghost use Rattle.std.specs.Prelude.{◌≤◌, Bool, List, Option, length};
-ghost use Rattle.bit_vectors.specs.Eye.{bits_left};
-ghost use Rattle.bit_vectors.specs.Reading.{MovesOn, Gives};
+ghost use Rattle.bit_vectors.specs.Reading.{bits_left, MovesOn, Gives};
 ghost use Rattle.packet_decode.specs.PacketReading.{parse_padding, parse_end};
 ghost use Rattle.packet_decode.specs.Parts.{outcome_of};
 

@@ -1,14 +1,20 @@
--- Which numbers are written and which are listed.
-use Rattle.std.proofs.Common.{◌≡◌, ℕ, zero, suc, ◌+◌, ◌-◌, ◌<◌, ◌≤◌, Bool, true, false, cond, ◌⊎◌, List, [], ◌∷◌, ◌++◌, length, replicate, Contains, Option, Some, None, inl, inr, refl, sym, ap, subst, ◌∙◌, arith}
-use Rattle.std.proofs.lemmas.Bool.{cases_eq, cases_lt, true≢false}
-use Rattle.std.proofs.lemmas.List.{append-nil}
-use Rattle.std.proofs.lemmas.Grind.{common_steps, flat_map-append}
+-- Which numbers are written and which are listed; later steps do not change earlier packets.
 use Rattle.std.specs.List.{filter, flat_map, last_or, range_with_len}
+use Rattle.std.proofs.Common.{◌≡◌, ℕ, zero, suc, ◌+◌, ◌-◌, ◌<◌, ◌≤◌, Bool, true, false, cond, ◌⊎◌, List, [], ◌∷◌, ◌++◌, length, replicate, Contains, Option, Some, None, inl, inr, refl, sym, ap, subst, ◌∙◌, arith, take}
+use Rattle.std.proofs.lemmas.Bool.{cases_eq, cases_lt, true≢false}
+use Rattle.std.proofs.lemmas.Grind.{common_steps, flat_map-append}
+use Rattle.std.proofs.lemmas.List.{append-nil, length-take, take_all, take_more}
 use Rattle.std.proofs.lemmas.List.Elements.{filter-append, Contains-append_left, Contains-push, Contains-push_cases}
-use Rattle.mask_update.proofs.NewMasks.{range_push}
-use Rattle.mask_update.specs.Histories.{History}
-use Rattle.robust_window.specs.Histories.{level_at}
+use Rattle.bit_vectors.specs.Vectors.{padded}
+use Rattle.mask_update.specs.Histories.{History, Step, flags_at, input_at, no_step, step_at, with_step}
+use Rattle.mask_update.specs.Masks.{mask_at}
+use Rattle.mask_update.proofs.Standing.{mask_at-before, step_at-before}
+use Rattle.mask_update.proofs.StepByStep.{range_push}
+use Rattle.robust_window.specs.Histories.{level_at, recent_at, twice_at}
+use Rattle.robust_window.proofs.OfHistories.{level_at-before, recent_at-before, twice_at-before}
 use Rattle.packet_encode.specs.Deliveries.{arrivals, count_to_last, count_up_to, latest_by, is_mask_known_from, is_mask_known, latest_mask_known, is_written_from, is_written, latest_written, is_known_together_from, is_known_together, latest_known_together, CarriesBoth, IsReached, IsLatest, KnownTogetherAt, Listed, MaskKnownAt, WrittenAt}
+use Rattle.packet_encode.specs.Forms.{form_bits, AgreeUpTo, form_at, packet_at}
+use Rattle.packet_encode.proofs.Packets.{form_of-same}
 
 -- ---- the latest one that passes a test
 
@@ -206,3 +212,53 @@ written_or_listed h copies t heard = by_test (is_written h copies t) refl
     by_test : (b : Bool) → is_written h copies t ≡ b → WrittenAt h copies t ⊎ Listed h copies t
     by_test true e = inl (written-from h copies t e)
     by_test false e = inr (record { heard = heard; unwritten = λ written. let is = written-to h copies t written in grind (arith, common_steps) })
+
+-- ---- later steps do not change the packets of the earlier steps
+
+form_at-before : (h : History) (step : Step) (t : ℕ) → t < length h.steps → form_at (with_step h step) t ≡ form_at h t
+form_at-before h step t lt =
+    let after : History = with_step h step in
+    form_of-same (mask_at after t) (mask_at h t) (recent_at after t) (recent_at h t) (level_at after t) (level_at h t) (twice_at after t) (twice_at h t)
+    (input_at after t) (input_at h t) (flags_at after t) (flags_at h t)
+    (mask_at-before h step t (omega arith)) (recent_at-before h step t lt) (level_at-before h step t lt) (twice_at-before h step t lt)
+    (ap (λ (s : Step). s.input) (step_at-before h step t lt)) (ap (λ (s : Step). s.flags) (step_at-before h step t lt))
+
+pub packet_at-before : (h : History) (step : Step) (t : ℕ) → t < length h.steps → packet_at (with_step h step) t ≡ packet_at h t
+packet_at-before h step t lt = ap (λ form. padded (form_bits form)) (form_at-before h step t lt)
+
+-- ---- the first steps alone
+
+abbrev with_steps : ℕ → List Bool → List Step → History
+with_steps places first_mask steps = record { places = places; first_mask = first_mask; steps = steps }
+
+-- the history of the given number of first steps
+abbrev first_steps : History → ℕ → History
+first_steps h count = with_steps h.places h.first_mask (take count h.steps)
+
+first_steps-more : (h : History) (count : ℕ) → count < length h.steps → first_steps h (count + 1) ≡ with_step (first_steps h count) (step_at h count)
+first_steps-more h count lt = ap (with_steps h.places h.first_mask) (take_more h.steps count no_step lt)
+
+fewer_steps : (h : History) (t more : ℕ) → t + 1 + more ≤ length h.steps → packet_at (first_steps h (t + 1 + more)) t ≡ packet_at (first_steps h (t + 1)) t
+fewer_steps h t zero le = let same : t + 1 + 0 ≡ t + 1 = omega arith in ap (λ n. packet_at (first_steps h n) t) same
+fewer_steps h t (suc more) le =
+    let next : t + 1 + suc more ≡ t + 1 + more + 1 = omega arith in
+    ap (λ n. packet_at (first_steps h n) t) next
+    ∙ ap (λ (x : History). packet_at x t) (first_steps-more h (t + 1 + more) (omega arith))
+    ∙ packet_at-before (first_steps h (t + 1 + more)) (step_at h (t + 1 + more)) t (omega (arith, length-take (t + 1 + more) h.steps))
+    ∙ fewer_steps h t more (omega arith)
+
+packet_at-first : (h : History) (t : ℕ) → t < length h.steps → packet_at h t ≡ packet_at (first_steps h (t + 1)) t
+packet_at-first h t lt =
+    let all : t + 1 + (length h.steps - (t + 1)) ≡ length h.steps = omega arith in
+    ap (λ steps. packet_at (with_steps h.places h.first_mask steps) t) (sym (take_all (length h.steps) h.steps (omega arith)))
+    ∙ ap (λ n. packet_at (first_steps h n) t) (sym all)
+    ∙ fewer_steps h t (length h.steps - (t + 1)) (omega arith)
+
+pub packet_at-same : (h other : History) (t : ℕ) → t < length h.steps → AgreeUpTo h other t → packet_at h t ≡ packet_at other t
+packet_at-same h other t lt agree =
+    let within : t < length other.steps = omega (arith, ap length agree.steps, length-take (t + 1) h.steps, length-take (t + 1) other.steps) in
+    packet_at-first h t lt
+    ∙ ap (λ places. packet_at (with_steps places h.first_mask (take (t + 1) h.steps)) t) agree.places
+    ∙ ap (λ first_mask. packet_at (with_steps other.places first_mask (take (t + 1) h.steps)) t) agree.first_mask
+    ∙ ap (λ steps. packet_at (with_steps other.places other.first_mask steps) t) agree.steps
+    ∙ sym (packet_at-first other t within)

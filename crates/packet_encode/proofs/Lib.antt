@@ -1,7 +1,3 @@
-pub mod Bounds
-pub mod Directions
-pub mod Earlier
 pub mod Deliveries
-pub mod OfHistories
-pub mod Plain
+pub mod Packets
 pub mod SavedEncoders

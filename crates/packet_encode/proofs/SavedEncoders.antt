@@ -3,7 +3,7 @@ use Rattle.std.proofs.Common.{◌≡◌, ℕ, ◌+◌, ◌*◌, ◌≤◌, List,
 use Rattle.bit_vectors.specs.Vectors.{byte_count}
 use Rattle.mask_update.specs.Masks.{Running}
 use Rattle.mask_update.specs.Saved.{BeginsRunning, running_before}
-use Rattle.mask_update.proofs.SavedMasks.{running_agree, running_size}
+use Rattle.mask_update.proofs.Standing.{running_agree, running_size}
 use Rattle.robust_window.specs.Saved.{AreOfWindow, window_bytes}
 use Rattle.robust_window.proofs.SavedWindows.{at_step, bytes_at, valid_at, window_size, windows_agree}
 use Rattle.packet_encode.specs.Encoder.{EncoderState}

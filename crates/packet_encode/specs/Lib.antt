@@ -1,5 +1,4 @@
 pub mod Encoder
 pub mod Saved
 pub mod Forms
-pub mod Packets
 pub mod Deliveries

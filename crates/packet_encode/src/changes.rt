@@ -3,8 +3,7 @@
 
 ghost use Rattle.std.specs.Prelude.{◌≡◌, ℕ, ◌+◌, ◌*◌, ◌<◌, ◌≤◌, ◌++◌, length, if◌then◌else◌};
 ghost use Rattle.bit_vectors.specs.Vectors.{number_bits, or_bits};
-ghost use Rattle.packet_encode.specs.Forms.{Form, change_bits, direction_bits, wide_by};
-ghost use Rattle.packet_encode.specs.Packets.{directions_of};
+ghost use Rattle.packet_encode.specs.Forms.{Form, change_bits, direction_bits, wide_by, directions_of};
 
 use bit_vectors::{BitPen, Bits};
 use robust_window::Window;

@@ -7,8 +7,7 @@ ghost use Rattle.bit_vectors.specs.Words.{word_count};
 ghost use Rattle.count_code.specs.Code.{count_bits};
 ghost use Rattle.run_code.specs.Extraction.{extract};
 ghost use Rattle.packet_encode.specs.Encoder.{HavePlaces};
-ghost use Rattle.packet_encode.specs.Forms.{Part, data_bits, mask_bits};
-ghost use Rattle.packet_encode.specs.Packets.{sent_content, sent_of};
+ghost use Rattle.packet_encode.specs.Forms.{Part, data_bits, mask_bits, sent_content, sent_of};
 
 use bit_vectors::{BitPen, Bits, Flags, NoMemory};
 use count_code::put_count;

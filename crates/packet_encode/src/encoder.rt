@@ -10,8 +10,7 @@ ghost use Rattle.robust_window.specs.Window.{IsNextStep, StandsFor as WindowStan
 ghost use Rattle.packet_encode.specs.Encoder.{EncoderState, HavePlaces, StandsFor, plain_data};
 ghost use Rattle.packet_encode.specs.Saved.{AreOfEncoder, IsEncoderState, encoder_bytes, encoder_room};
 ghost use Rattle.state_bytes.specs.Parts.{Puts};
-ghost use Rattle.packet_encode.specs.Forms.{form_bits};
-ghost use Rattle.packet_encode.specs.Packets.{form_at, form_of, packet_at, with_next_input};
+ghost use Rattle.packet_encode.specs.Forms.{form_bits, form_at, form_of, packet_at, with_next_input};
 ghost use Rattle.robust_window.specs.Histories.{level_at};
 
 use crate::changes::{put_changes, put_level};

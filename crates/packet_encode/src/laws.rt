@@ -4,8 +4,7 @@ ghost use Rattle.std.specs.Prelude.{◌≡◌, ℕ, ◌↔◌, ◌⊎◌, ◌+�
 ghost use Rattle.bit_vectors.specs.Vectors.{bits_of, byte_count, padded};
 ghost use Rattle.mask_update.specs.Histories.{History, IsValid, Step, input_at, robust_at, with_step};
 ghost use Rattle.mask_update.specs.Masks.{mask_at};
-ghost use Rattle.packet_encode.specs.Forms.{Fits, IsForm, Whole, Part, form_bits};
-ghost use Rattle.packet_encode.specs.Packets.{AgreeUpTo, form_at, packet_at};
+ghost use Rattle.packet_encode.specs.Forms.{Fits, IsForm, Whole, Part, form_bits, AgreeUpTo, form_at, packet_at};
 ghost use Rattle.packet_encode.specs.Deliveries.{IsLatest, KnownTogetherAt, Listed, MaskKnownAt, WrittenAt, count_to_last, is_known_together, is_mask_known, is_written, latest_known_together, latest_mask_known, latest_written, listed_numbers, written_numbers};
 ghost use Rattle.robust_window.specs.Worked.{worked};
 

@@ -6,7 +6,7 @@ use Rattle.std.proofs.lemmas.Grind.{common_steps}
 use Rattle.packet_store.specs.declared.header.Header.{Header}
 use Rattle.packet_store.specs.SpacePackets.{IsHeader, IsPacket, Packet, bit, header_of, header_at, packet_bytes, plain_header, plain_packet, is_misshapen}
 use Rattle.packet_store.specs.Walks.{IsGood, Good, by_checks, front_after, front}
-use Rattle.packet_store.specs.Reading.{front_packet}
+use Rattle.packet_store.specs.StoreReader.{front_packet}
 
 is_one : (n : ℕ) → n ≡ 1 → (n == 1) ≡ true
 is_one n e = ap (λ m. m == 1) e

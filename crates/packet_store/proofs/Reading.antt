@@ -4,10 +4,8 @@ use Rattle.std.proofs.lemmas.Bool.{cases_lt}
 use Rattle.std.proofs.lemmas.List.{take-append-drop, take-append-le, take-take}
 use Rattle.std.specs.Io.KnownBytes.{IsAtEnd}
 use Rattle.desk_ports.specs.declared.desk.Inlet.TheVariants as inlet
-use Rattle.desk_ports.specs.Meanings.{Meanings, Moves, left}
-use Rattle.desk_ports.specs.ReadAhead.{ReadsOn}
-use Rattle.desk_ports.proofs.Transfers.{prepend_known-none}
-use Rattle.desk_ports.proofs.Courses.{rest_of, IfSome-rest_of, IfSome-IsAtEnd}
+use Rattle.desk_ports.specs.Meanings.{Meanings, Moves, left, ReadsOn}
+use Rattle.desk_ports.proofs.Courses.{prepend_known-none, rest_of, IfSome-rest_of, IfSome-IsAtEnd}
 use Rattle.packet_store.specs.declared.header.Header.{Header}
 use Rattle.packet_store.specs.declared.fault.StoreKind.{StoreKind}
 use Rattle.packet_store.specs.declared.fault.StoreKind.TheVariants as kind
@@ -17,8 +15,7 @@ use Rattle.packet_store.specs.declared.fault.StoreFault.TheVariants.{Cut, Versio
 use Rattle.packet_store.specs.declared.reader.Taken.{Taken}
 use Rattle.packet_store.specs.SpacePackets.{IsHeader, header_of, packet_bytes, is_chosen, is_misshapen}
 use Rattle.packet_store.specs.Walks.{IsGood, Front, End, Good, Bad, front_after, front, Walk, packet_first, stopped_at, walk_from}
-use Rattle.packet_store.specs.StoreReader.{ReaderState, reader_state, TakesPacket, Stops, IsOnlyCut, Waits, AfterFault}
-use Rattle.packet_store.specs.Reading.{front_packet, BeginsWithPacket, IsEarly, AfterUnread}
+use Rattle.packet_store.specs.StoreReader.{ReaderState, reader_state, TakesPacket, Stops, IsOnlyCut, Waits, AfterFault, front_packet, BeginsWithPacket, IsEarly, AfterUnread}
 use Rattle.packet_store.proofs.Packets.{header_at-header_of, by_checks-Good, from_long}
 use Rattle.packet_store.proofs.Walks.{walk_from-none, walk_from-good, walk_from-bad, walk_from-too_many, walk_from-early}
 

@@ -3,7 +3,7 @@ use Rattle.std.proofs.Common.{◌≡◌, ℕ, List, [], ◌++◌, ap, ◌∙◌}
 use Rattle.std.specs.Io.KnownBytes.{IsAtEnd}
 use Rattle.desk_ports.specs.declared.desk.Inlet.TheVariants as inlet
 use Rattle.desk_ports.specs.Meanings.{Meanings, Moves, left}
-use Rattle.desk_ports.proofs.WalkTurns.{AfterWalk, IsOver, StopsAt, TakesItem}
+use Rattle.desk_ports.proofs.Steps.{AfterWalk, IsOver, StopsAt, TakesItem}
 use Rattle.packet_store.specs.declared.header.Header.{Header}
 use Rattle.packet_store.specs.declared.reader.Taken.{Taken}
 use Rattle.packet_store.specs.declared.fault.WalkFault.{WalkFault}
@@ -11,8 +11,7 @@ use Rattle.packet_store.specs.declared.fault.StoreFault.{StoreFault}
 use Rattle.packet_store.specs.declared.fault.StoreFault.TheVariants.{Cut, Version, Shape, ReadFault, TooMany}
 use Rattle.packet_store.specs.SpacePackets.{Packet}
 use Rattle.packet_store.specs.Walks.{Walk, walk_from}
-use Rattle.packet_store.specs.Faults.{stop_of}
-use Rattle.packet_store.specs.StoreReader.{ReaderState, walk_over, TakesPacket, Stops, AfterFault}
+use Rattle.packet_store.specs.StoreReader.{stop_of, ReaderState, walk_over, TakesPacket, Stops, AfterFault}
 use Rattle.packet_store.proofs.Walks.{walk_from-none}
 
 StopsAt-store : {s : ReaderState} {ahead : List ℕ} {a b : Meanings} {reason : WalkFault} → Stops s ahead a b reason → StopsAt (walk_over s) a b reason

@@ -9,8 +9,7 @@ use Rattle.packet_store.specs.declared.fault.WalkFault.{WalkFault}
 use Rattle.packet_store.specs.declared.fault.WalkFault.TheVariants as fault
 use Rattle.packet_store.specs.SpacePackets.{IsPacket, Packet, packet_bytes, plain_packet, store_bytes}
 use Rattle.packet_store.specs.Walks.{IsGood, Front, End, Good, Bad, front, Walk, walked, stopped_at, packet_first, at_limit, by_front, walk_step, walk_by, walk_from, packets_bytes, by_checks, bad_at, ending_at}
-use Rattle.packet_store.specs.StoreReader.{IsOnlyCut}
-use Rattle.packet_store.specs.Reading.{IsEarly}
+use Rattle.packet_store.specs.StoreReader.{IsOnlyCut, IsEarly}
 use Rattle.packet_store.proofs.Packets.{front-good, front-Good, front-shorter, IsGood-plain}
 
 either_way : (b : Bool) (w : Walk) → (if b then w else w) ≡ w

@@ -1,17 +1,24 @@
--- A reader of a store: where it is, and what a call of `next` does to it and to the desk.
-use Rattle.std.specs.Prelude.{◌≡◌, ℕ, ◌+◌, ◌*◌, ◌^◌, ◌<◌, ◌≤◌, Bool, true, false, List, [], ◌++◌, length, take, drop, Option, Some, None, IfSome}
-use Rattle.desk_ports.specs.Meanings.{Meanings, Moves, left}
-use Rattle.desk_ports.specs.WalkWorks.{WalkOver}
+-- A reader of a store: where it is, what a call of `next` does to it and to the desk, and why a store is not read on.
+use Rattle.std.specs.Io.KnownBytes.{IsAtEnd}
+use Rattle.std.specs.Prelude.{◌≡◌, ℕ, ◌+◌, ◌*◌, ◌^◌, ◌<◌, ◌≤◌, Bool, true, false, List, [], ◌++◌, length, take, drop, Option, Some, None, IfSome, Result, Ok, Err}
+use Rattle.desk_ports.specs.Courses.{WalkOver}
+use Rattle.desk_ports.specs.Meanings.{Meanings, Moves, left, Counts, FailsToRead, Stop}
+use Rattle.desk_ports.specs.Meanings as stop
 use Rattle.desk_ports.specs.declared.desk.Inlet.TheVariants as inlet
-use Rattle.packet_store.specs.declared.header.Header.{Header}
-use Rattle.packet_store.specs.declared.reader.Taken.{Taken}
+use Rattle.packet_store.specs.SpacePackets.{Packet, packet_bytes, is_chosen}
+use Rattle.packet_store.specs.Walks.{IsGood, Walk, walk_from, packet_first, stopped_at, Front, End, Good, Bad, front}
+use Rattle.packet_store.specs.declared.fault.RunFault.{RunFault}
+use Rattle.packet_store.specs.declared.fault.RunFault.TheVariants as run
+use Rattle.packet_store.specs.declared.fault.StoreFault.{StoreFault}
+use Rattle.packet_store.specs.declared.fault.StoreFault.TheVariants.{Cut, Version, Shape, ReadFault, TooMany}
+use Rattle.packet_store.specs.declared.fault.StoreKind.{StoreKind}
 use Rattle.packet_store.specs.declared.fault.StoreKind.TheVariants as kind
 use Rattle.packet_store.specs.declared.fault.WalkFault.{WalkFault}
 use Rattle.packet_store.specs.declared.fault.WalkFault.TheVariants as fault
-use Rattle.packet_store.specs.declared.fault.StoreFault.{StoreFault}
-use Rattle.packet_store.specs.declared.fault.StoreFault.TheVariants.{Cut, Version, Shape, ReadFault, TooMany}
-use Rattle.packet_store.specs.SpacePackets.{Packet, packet_bytes, is_chosen}
-use Rattle.packet_store.specs.Walks.{IsGood, Walk, walk_from, packet_first, stopped_at}
+use Rattle.packet_store.specs.declared.header.Header.{Header}
+use Rattle.packet_store.specs.declared.reader.Taken.{Taken}
+
+-- ---- A reader of a store: where it is, and what a call of `next` does to it and to the desk
 
 -- the chosen APID, the number of packets given so far and of their bytes, whether the reader goes on, the latest packet
 -- with its data, both empty if the latest call gave none, and the bytes after it that were read ahead
@@ -107,3 +114,59 @@ pub record IsReader (taken offset held input : ℕ) : Type 0 where
   pub few : taken ≤ 2 ^ 32
   pub short : offset ≤ taken * 65542
   pub within : held ≤ input
+
+-- ---- why a store is not read on, and what the counts of the desk do then
+
+-- the fault of a reader, as a reason to end a run
+abbrev pub stop_of : StoreFault → Stop WalkFault
+stop_of (Cut byte) = stop.Data (fault.Bad byte kind.Cut)
+stop_of (Version byte) = stop.Data (fault.Bad byte kind.Version)
+stop_of (Shape byte) = stop.Data (fault.Bad byte kind.Shape)
+stop_of TooMany = stop.Data fault.TooMany
+stop_of ReadFault = stop.ReadFault
+
+-- and that of a run that reads a store and writes
+abbrev pub stop_by : RunFault → Stop WalkFault
+stop_by (run.Store fault) = stop_of fault
+stop_by run.WriteFault = stop.WriteFault
+
+-- after a call that reads a store: ReadFault comes only if a read failed, and otherwise both counts are as before
+abbrev pub HasStoreCause : {T : Type 0} → Counts → Counts → Result T StoreFault → Type 0
+HasStoreCause old new (Ok done) = new ≡ old
+HasStoreCause old new (Err ReadFault) = FailsToRead old new
+HasStoreCause old new (Err (Cut byte)) = new ≡ old
+HasStoreCause old new (Err (Version byte)) = new ≡ old
+HasStoreCause old new (Err (Shape byte)) = new ≡ old
+HasStoreCause old new (Err TooMany) = new ≡ old
+
+-- ---- one packet, as it is read
+
+-- the packet with this header that is at the front of some bytes
+abbrev pub front_packet : Header → List ℕ → Packet
+front_packet h bytes = record { header = h; body = drop 6 (take (h.length + 7) bytes) }
+
+-- a good packet is at the front of these bytes, whole
+pub record BeginsWithPacket (chosen : Option ℕ) (bytes : List ℕ) : Type 0 where
+  pub packet : Packet
+  pub rest : List ℕ
+  pub is : front chosen bytes ≡ Good packet rest
+
+-- nothing is at the front, or the bytes only end too soon
+abbrev pub IsEarly : Front → Type 0
+IsEarly End = Unit {0}
+IsEarly (Good p rest) = ⊥
+IsEarly (Bad kind.Cut) = Unit {0}
+IsEarly (Bad kind.Version) = ⊥
+IsEarly (Bad kind.Shape) = ⊥
+
+-- this is wrong with what is at the front of these bytes, whatever follows them
+abbrev pub IsBad : Option ℕ → List ℕ → StoreKind → Type 0
+IsBad chosen bytes why = (rest : List ℕ) → front chosen (bytes ++ rest) ≡ Bad why
+
+-- no good packet is at this offset, if these bytes are ahead
+abbrev pub AfterUnread : Option ℕ → ℕ → List ℕ → Meanings → StoreFault → Type 0
+AfterUnread chosen offset ahead m (Cut byte) = (byte ≡ offset) × (front chosen ahead ≡ Bad kind.Cut) × IsAtEnd (left m inlet.Main)
+AfterUnread chosen offset ahead m (Version byte) = (byte ≡ offset) × IsBad chosen ahead kind.Version
+AfterUnread chosen offset ahead m (Shape byte) = (byte ≡ offset) × IsBad chosen ahead kind.Shape
+AfterUnread chosen offset ahead m TooMany = ⊥
+AfterUnread chosen offset ahead m ReadFault = IsEarly (front chosen ahead)

@@ -2,13 +2,11 @@
 
 ghost use Rattle.std.specs.Prelude.{◌≡◌, ◌+◌, ◌<◌, [], take, IfErr};
 ghost use Rattle.std.specs.Io.KnownBytes.{IsAtEnd};
-ghost use Rattle.desk_ports.specs.Meanings.{IsReadyIn, left};
-ghost use Rattle.desk_ports.specs.ReadAhead.{ReadsOn};
+ghost use Rattle.desk_ports.specs.Meanings.{IsReadyIn, left, ReadsOn};
 ghost use Rattle.packet_store.specs.SpacePackets.{header_of};
 ghost use Rattle.packet_store.specs.Walks.{IsGood};
 ghost use Rattle.packet_store.specs.Answers.{IfGiven, OnEnd};
-ghost use Rattle.packet_store.specs.Faults.{HasStoreCause};
-ghost use Rattle.packet_store.specs.Reading.{AfterUnread, BeginsWithPacket, front_packet};
+ghost use Rattle.packet_store.specs.StoreReader.{HasStoreCause, AfterUnread, BeginsWithPacket, front_packet};
 
 use crate::fault::StoreFault;
 use crate::header::{HEADER_BYTES, Header, first_header};

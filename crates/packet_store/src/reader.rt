@@ -4,9 +4,7 @@ ghost use Rattle.std.specs.Prelude.{◌≡◌, ◌<◌, ◌≤◌, [], length, S
 ghost use Rattle.std.specs.Io.KnownBytes.{IsAtEnd};
 ghost use Rattle.desk_ports.specs.Meanings.{Moves, IsReadyIn, left};
 ghost use Rattle.packet_store.specs.Answers.{IfGiven, OnEnd, OnStop};
-ghost use Rattle.packet_store.specs.Faults.{HasStoreCause};
-ghost use Rattle.packet_store.specs.Reading.{BeginsWithPacket};
-ghost use Rattle.packet_store.specs.StoreReader.{TakesPacket, AfterFault, opened, stopped};
+ghost use Rattle.packet_store.specs.StoreReader.{HasStoreCause, BeginsWithPacket, TakesPacket, AfterFault, opened, stopped};
 
 use crate::fault::StoreFault;
 use crate::header::HEADER_BYTES;

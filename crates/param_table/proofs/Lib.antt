@@ -1,8 +1,3 @@
-pub mod Words
-pub mod Limits
 pub mod TextRows
-pub mod Violations
+pub mod Words
 pub mod TableCourses
-pub mod TableTexts
-pub mod Sums
-pub mod NumberedPackets

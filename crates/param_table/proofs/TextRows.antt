@@ -14,8 +14,7 @@ use Rattle.param_table.specs.declared.rows.FieldRow.{FieldRow}
 use Rattle.param_table.specs.declared.rows.LimitRow.{LimitRow}
 use Rattle.param_table.specs.declared.rows.TextRow.{TextRow}
 use Rattle.param_table.specs.declared.rows.TextRow.TheVariants as row
-use Rattle.param_table.specs.Rows.{AreColumns, IsColumn, IsFieldRow, IsLimit, IsLimitRow, IsTextRow, column_of, columns_of, field_of, is_field, limit_named, limit_of, same_name}
-use Rattle.param_table.specs.Grammar.{field_row_of, limit_row_of, text_row_of}
+use Rattle.param_table.specs.Rows.{AreColumns, IsColumn, IsFieldRow, IsLimit, IsLimitRow, IsTextRow, column_of, columns_of, field_of, is_field, limit_named, limit_of, same_name, field_row_of, limit_row_of, text_row_of}
 
 pub filter_map-one : {A B : Type 0} (f : A → Option B) (x : A) (o : Option B) → f x ≡ o → filter_map f (x ∷ []) ≡ option_to_list (f x)
 filter_map-one f x None is = rw is refl

@@ -1,21 +1,85 @@
--- A number of at most 64 bits in the words that keep a vector.
-use Rattle.std.proofs.Common.{◌≡◌, ◌≢◌, ℕ, suc, pow_mono, ◌+◌, ◌-◌, ◌*◌, ◌/◌, ◌%◌, ◌^◌, ◌<◌, ◌≤◌, Bool, true, false, eqb, List, [], ◌∷◌, length, get_or, take, drop, bit_or, ◌&&◌, ℤ, pos, neg_ℤ, ◌-ℤ◌, ◌*ℤ◌, unsigned_abs, refl, subst, sym, ap, ◌∙◌, arith, inl, inr}
-use Rattle.std.specs.Int.{bit_at}
-use Rattle.std.proofs.lemmas.Bool.{cases_lt}
-use Rattle.std.proofs.lemmas.Bool.Decides.{nat_tests}
-use Rattle.std.proofs.lemmas.List.{ext_get_or, get_or-take, get_or-drop, length-take-le, length-drop}
-use Rattle.std.proofs.lemmas.Int.{ints}
-use Rattle.std.proofs.Math.Nat.{mod-eq_of_lt, pow-succ'}
+-- Numbers in the words that keep a vector: sums of their bits, and the numbers of limits.
 use mir.Syntax.{w128}
 use mir.Val.{to_z, of_z}
+use Rattle.std.specs.Int.{bit_at}
+use Rattle.std.specs.List.{range_with_len, sum_by}
+use Rattle.std.proofs.Common.{◌≡◌, ℕ, suc, zero, ◌^◌, ◌<◌, ℤ, pos, neg_ℤ, unsigned_abs, refl, arith, ◌+◌, ◌-◌, ◌≤◌, Bool, false, cond, List, [], ◌∷◌, length, get_or, take, drop, sym, ap, ◌∙◌, ◌≢◌, pow_mono, ◌*◌, ◌/◌, ◌%◌, true, eqb, bit_or, ◌&&◌, ◌-ℤ◌, ◌*ℤ◌, subst, inl, inr}
+use Rattle.std.proofs.Math.Nat.{mod-eq_of_lt, pow-succ'}
+use Rattle.std.proofs.lemmas.Bool.{cases_lt}
+use Rattle.std.proofs.lemmas.Bool.Decides.{nat_tests}
+use Rattle.std.proofs.lemmas.Int.{ints}
+use Rattle.std.proofs.lemmas.List.{length-drop, length-take-le, get_or-take, get_or-drop, ext_get_or}
+use Rattle.std.proofs.lemmas.List.Sums.{sum_by-cons}
 use Rattle.std.proofs.lemmas.Nat.{pow_pos, shr_below}
 use Rattle.std.proofs.lemmas.Nat.Bits.{bit_at_or, bit_at_above}
 use Rattle.bit_vectors.specs.Vectors.{bits_number, number_bits}
 use Rattle.bit_vectors.specs.Words.{IsWord}
-use Rattle.bit_vectors.proofs.NumberBits.{length-number_bits, get_or-number_bits, bits_number-number_bits, bits_number_below}
-use Rattle.bit_vectors.proofs.Numbers.{bit_at_mod, bit_at_shr, bit_at_shl, bit_at_shl_low}
-use Rattle.param_table.proofs.Limits.{abs-neg}
-use Rattle.param_table.specs.Cells.{cell_in, first_bit, number_in, signed_if}
+use Rattle.bit_vectors.proofs.NumberBits.{length-number_bits, get_or-number_bits, bits_number-number_bits, bits_number_below, bit_at_mod, bit_at_shr, bit_at_shl, bit_at_shl_low}
+use Rattle.param_table.specs.Cells.{number_in, sum_by_weight, cell_in, first_bit, signed_if}
+use Rattle.param_table.specs.Rows.{IsLimit}
+
+-- ---- the numbers of limits
+
+pub abs-neg : (n : ℕ) → unsigned_abs (neg_ℤ (pos n)) ≡ n
+abs-neg zero = refl
+abs-neg (suc n) = refl
+
+pub same-wide : (z : ℤ) → unsigned_abs z < 2 ^ 64 → to_z w128 (of_z w128 z) ≡ z
+same-wide z small = omega (arith, ints)
+
+-- a limit whose numbers a text gave
+pub IsLimit-read : (low high : ℤ) → unsigned_abs low < 2 ^ 64 → unsigned_abs high < 2 ^ 64 → IsLimit (record { low = to_z w128 (of_z w128 low); high = to_z w128 (of_z w128 high) })
+IsLimit-read low high low_small high_small = record { low = rw (same-wide low low_small) low_small; high = rw (same-wide high high_small) high_small }
+
+-- ---- A number is the sum of its bits, each by its weight
+
+-- what the bit at a place of some bits adds
+abbrev part : List Bool → ℕ → ℕ → ℕ
+part bits width i = cond (get_or bits i false) (2 ^ (width - 1 - i)) 0
+
+-- sums with the same parts are the same
+same_sum : (f g : ℕ → ℕ) (a b n : ℕ) → ((i : ℕ) → i < n → f (a + i) ≡ g (b + i)) → sum_by f (range_with_len a n) ≡ sum_by g (range_with_len b n)
+same_sum f g a b zero same = refl
+same_sum f g a b (suc n) same =
+    let first_a : a + 0 ≡ a = omega arith in
+    let first_b : b + 0 ≡ b = omega arith in
+    let head : f a ≡ g b = ap f (sym first_a) ∙ (same 0 (omega arith) ∙ ap g first_b) in
+    let rest = same_sum f g (a + 1) (b + 1) n (λ i lt.
+    let at_a : a + 1 + i ≡ a + (i + 1) = omega arith in
+    let at_b : b + (i + 1) ≡ b + 1 + i = omega arith in
+    ap f at_a ∙ (same (i + 1) (omega arith) ∙ ap g at_b)) in
+    omega (arith, sum_by-cons f a (range_with_len (a + 1) n), sum_by-cons g b (range_with_len (b + 1) n), head, rest)
+
+bits_number-sum : (bits : List Bool) → bits_number bits ≡ sum_by (part bits (length bits)) (range_with_len 0 (length bits))
+unfolding bits_number
+bits_number-sum [] = refl
+bits_number-sum (bit ∷ bits) =
+    let n = length bits in
+    let rest = bits_number-sum bits in
+    let moved : sum_by (part (bit ∷ bits) (suc (length bits))) (range_with_len 1 (length bits)) ≡ sum_by (part bits (length bits)) (range_with_len 0 (length bits)) =
+    same_sum (part (bit ∷ bits) (suc (length bits))) (part bits (length bits)) 1 0 (length bits) (λ i lt.
+    let next : 1 + i ≡ suc i = omega arith in
+    let from : 0 + i ≡ i = omega arith in
+    let weight : suc (length bits) - 1 - suc i ≡ length bits - 1 - i = omega arith in
+    ap (part (bit ∷ bits) (suc (length bits))) next ∙ (ap (λ (k : ℕ). cond (get_or bits i false) (2 ^ k) 0) weight ∙ ap (part bits (length bits)) (sym from))) in
+    let weight : suc (length bits) - 1 - 0 ≡ length bits = omega arith in
+    let head : part (bit ∷ bits) (suc (length bits)) 0 ≡ cond bit (2 ^ length bits) 0 = ap (λ (k : ℕ). cond bit (2 ^ k) 0) weight in
+    let all = sum_by-cons (part (bit ∷ bits) (suc (length bits))) 0 (range_with_len 1 (length bits)) in
+    sym (omega (arith, all, head, moved, rest))
+
+pub number_in-sum : (v : List Bool) (place width : ℕ) → place + width ≤ length v → number_in v place width ≡ sum_by_weight v place width
+number_in-sum v place width within =
+    let bits = take width (drop place v) in
+    let size : length (take width (drop place v)) ≡ width = length-take-le width (drop place v) (omega (arith, length-drop place v)) in
+    bits_number-sum bits
+    ∙ (ap (λ (n : ℕ). sum_by (part bits n) (range_with_len 0 n)) size
+    ∙ same_sum (part bits width) (λ i. cond (get_or v (place + i) false) (2 ^ (width - 1 - i)) 0) 0 0 width (λ i lt.
+    let from : 0 + i ≡ i = omega arith in
+    ap (part bits width) from
+    ∙ (ap (λ (b : Bool). cond b (2 ^ (width - 1 - i)) 0) (get_or-take width (drop place v) i false lt ∙ get_or-drop place v i false)
+    ∙ ap (λ (k : ℕ). cond (get_or v (place + k) false) (2 ^ (width - 1 - k)) 0) (sym from))))
+
+-- ---- A number of at most 64 bits in the words that keep a vector
 
 -- a bit that is in the word that has the place
 pub bit_of_first : (v : List Bool) (place first k : ℕ) → IsWord v (place / 64) first → place % 64 + k < 64 → bit_at (first * 2 ^ (place % 64) % 2 ^ 64) (63 - k) ≡ bit_at first (63 - (place % 64 + k))

@@ -1,6 +1,5 @@
 pub mod Cells
 pub mod Rows
-pub mod Grammar
 pub mod Texts
 pub mod Line
 pub mod Tabling

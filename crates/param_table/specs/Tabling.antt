@@ -2,8 +2,7 @@
 use Rattle.std.specs.Prelude.{◌≡◌, ℕ, ◌+◌, ◌*◌, ◌^◌, ◌≤◌, Bool, List, [], ◌++◌, length}
 use Rattle.std.specs.List.{flat_map}
 use Rattle.bit_vectors.specs.Vectors.{IsVector}
-use Rattle.desk_ports.specs.Courses.{Course, Outputs, Work, to_output, to_report}
-use Rattle.desk_ports.specs.WalkWorks.{WalkWork, work_on}
+use Rattle.desk_ports.specs.Courses.{Course, Outputs, Work, to_output, to_report, WalkWork, work_on}
 use Rattle.flight_chain.specs.declared.fault.RecordFault.{RecordFault}
 use Rattle.flight_chain.specs.Recordings.{recording_walk, walk_over}
 use Rattle.param_table.specs.declared.rows.Column.{Column}

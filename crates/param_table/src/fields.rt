@@ -3,8 +3,7 @@
 ghost use Rattle.std.specs.Prelude.{◌≡◌, ◌<◌, ◌≤◌, ◌↔◌, ◌++◌, ℕ, length, map, Err, IfOk, OnOk};
 ghost use Rattle.std.specs.List.{filter_map};
 ghost use Rattle.std.specs.Option.{option_to_list};
-ghost use Rattle.param_table.specs.Grammar.{bad_text_row, text_columns};
-ghost use Rattle.param_table.specs.Rows.{AreColumns, column_of, field_of, limit_named, limit_of};
+ghost use Rattle.param_table.specs.Rows.{bad_text_row, text_columns, AreColumns, column_of, field_of, limit_named, limit_of};
 ghost use Rattle.bit_vectors.specs.Vectors.{IsPlaces};
 
 use crate::grammar::FieldText;

@@ -4,8 +4,7 @@ ghost use Rattle.std.specs.Prelude.{◌≡◌, count_by, IfOk};
 ghost use Rattle.std.specs.Result.{result_ok};
 ghost use Rattle.std.specs.List.{list_any};
 ghost use Rattle.csv.specs.Records.{fields_of};
-ghost use Rattle.param_table.specs.Rows.{IsFieldRow, IsLimitRow, IsTextRow, is_field, names_field, names_limit};
-ghost use Rattle.param_table.specs.Grammar.{field_row_of, is_signed_kind, limit_row_of, text_row_of};
+ghost use Rattle.param_table.specs.Rows.{IsFieldRow, IsLimitRow, IsTextRow, is_field, names_field, names_limit, field_row_of, is_signed_kind, limit_row_of, text_row_of};
 
 use crate::name::Name;
 use crate::rows::{FieldRow, Limit, LimitRow, TextRow};

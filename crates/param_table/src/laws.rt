@@ -4,7 +4,7 @@ ghost use Rattle.std.specs.Prelude.{◌≡◌, ℕ, ◌+◌, ◌≤◌, ◌++◌
 ghost use Rattle.desk_ports.specs.Courses.{AreFronts, owed, texts_of};
 ghost use Rattle.flight_chain.specs.Recordings.{recording_of, recording_walk};
 ghost use Rattle.param_table.specs.Cells.{cell_in, first_bit, number_in, signed_if, sum_by_weight};
-ghost use Rattle.param_table.specs.Grammar.{bad_text_row, text_columns};
+ghost use Rattle.param_table.specs.Rows.{bad_text_row, text_columns};
 ghost use Rattle.param_table.specs.Texts.{header_row, limit_text, table_text, violation_rows, violations};
 ghost use Rattle.param_table.specs.Tabling.{Tabulation, table_course};
 ghost use Rattle.param_table.specs.Worked.{worked_columns, worked_packets};

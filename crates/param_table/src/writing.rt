@@ -3,9 +3,8 @@
 ghost use Rattle.std.specs.Prelude.{◌≡◌, ◌≤◌, length, is_some, IfOk};
 ghost use Rattle.std.specs.Option.{option_to_list};
 ghost use Rattle.desk_ports.specs.Meanings.{IsReadyOut};
-ghost use Rattle.desk_ports.specs.Turns.{IsReadyRun};
+ghost use Rattle.desk_ports.specs.Turns.{IsReadyRun, Writes};
 ghost use Rattle.desk_ports.specs.Courses.{to_report};
-ghost use Rattle.desk_ports.specs.Writings.{Writes};
 ghost use Rattle.param_table.specs.Rows.{AreColumns, IsColumn};
 ghost use Rattle.param_table.specs.Texts.{end_row, packet_violations, violation_of, violation_rows};
 ghost use Rattle.param_table.specs.Tabling.{headers, packet_texts};

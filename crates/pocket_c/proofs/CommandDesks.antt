@@ -12,7 +12,7 @@ use Rattle.desk_ports.specs.declared.desk.Outlet.{Outlet}
 use Rattle.desk_ports.specs.declared.desk.Outlet.TheVariants as outlet
 use Rattle.desk_ports.specs.Meanings.{Kept, HasReadCause, Keeps, next_count}
 use Rattle.desk_ports.specs.MemState.{MemState, IsCalled, IsNamed, NothingFails, called, mem_meanings, read_fault}
-use Rattle.desk_ports.proofs.Held.{IsSome-insert}
+use Rattle.desk_ports.proofs.Desks.{IsSome-insert}
 use Rattle.pocket_cmd.specs.Words.{Words, is_split, key_in, read_keys, text_in}
 use Rattle.pocket_cmd.specs.Openings.{GrantsNames}
 use Rattle.pocket_c.specs.CommandDesk.{CommandState, IsCommandDesk, command_counts, command_meanings, counted_reads, give_name, gives_name, has_read_key, lack_name}

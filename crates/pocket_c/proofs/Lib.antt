@@ -1,4 +1,3 @@
 pub mod Values
-mod Exits
 pub mod CommandDesks
 pub mod Runs

@@ -1,29 +1,70 @@
--- What a command over its desk leaves, by the clauses of `pocket`.
-use Rattle.std.proofs.Common.{arith, ◌≡◌, ◌≢◌, ℕ, Bool, true, false, List, [], drop, Option, Some, Ok, Err, sym, ap, subst, ◌∙◌, inl, inr, refl}
-use Rattle.std.specs.Prelude.{◌⊎◌, ◌↔◌}
-use Rattle.mask_update.specs.Histories.{History}
-use Rattle.ground_chain.specs.Deliveries.{report_text, restored_bytes}
-use Rattle.side_tables.specs.Grammar.{bad_copy_row}
-use Rattle.desk_ports.specs.declared.desk.Inlet.TheVariants as inlet
+-- What a command over its desk leaves, by the clauses of `pocket`, and by its exit number.
+use Rattle.std.specs.Prelude.{◌↔◌}
+use Rattle.std.proofs.Common.{rules, arith, ℕ, ◌⊎◌, inl, inr, ◌≡◌, ◌≢◌, Bool, true, false, List, [], drop, Option, Some, Ok, Err, sym, ap, subst, ◌∙◌, refl}
 use Rattle.desk_ports.specs.Meanings.{Counts, Meanings, Rose, left, next_count}
 use Rattle.desk_ports.specs.MemState.{MemFaults, MemState, no_faults}
+use Rattle.desk_ports.specs.declared.desk.Inlet.{Inlet}
+use Rattle.desk_ports.specs.declared.desk.Inlet.TheVariants as inlet
+use Rattle.mask_update.specs.Histories.{History}
+use Rattle.side_tables.specs.Grammar.{bad_copy_row}
+use Rattle.ground_chain.specs.Deliveries.{report_text, restored_bytes}
 use Rattle.pocket_cmd.specs.Apart.{AreKeptAsMade}
 use Rattle.pocket_cmd.specs.Command.{Command, command_of, names_of}
-use Rattle.pocket_cmd.specs.Courses.{bad_row_of}
+use Rattle.pocket_cmd.specs.Courses.{DataFault, bad_row_of}
 use Rattle.pocket_cmd.specs.Delivery.{HasWritten, IsPlayedStore, IsSideRight, IsInputWhole}
-use Rattle.pocket_cmd.specs.Faults.{DataFault}
+use Rattle.pocket_cmd.specs.Courses as fault
 use Rattle.pocket_cmd.specs.Kept.{Leaves}
 use Rattle.pocket_cmd.specs.Openings.{AreTold, side_given}
 use Rattle.pocket_cmd.specs.Outcome.{AfterRefusal, IsScriptFirst, IsSideJudged, IsTextBad, IsTextFirst, NoneRose, Stands, answer_to}
-use Rattle.pocket_cmd.specs.Status.{BadText, HasStatusCause, status_of}
+use Rattle.pocket_cmd.specs.Status.{BadText, exit_number, refusal_for, refusal_of, HasStatusCause, status_of}
+use Rattle.pocket_cmd.specs.Status as cmd
 use Rattle.pocket_cmd.specs.Words.{Words}
 use Rattle.pocket_cmd.specs.declared.status.Refusal.{Refusal}
 use Rattle.pocket_cmd.specs.declared.status.Refusal.TheVariants as refusal
 use Rattle.pocket_cmd.specs.declared.status.Status.{Status}
 use Rattle.pocket_cmd.specs.declared.status.Status.TheVariants as status
 use Rattle.pocket_cmd.specs.declared.verbs.Verb.TheVariants.{Forecast, Restore}
+use Rattle.pocket_c.specs.Bench.{BenchState}
 use Rattle.pocket_c.specs.CommandDesk.{CommandState, command_counts, command_meanings, counted_reads, give_name, lack_name}
-use Rattle.pocket_c.specs.Running.{HasRun}
+use Rattle.pocket_c.specs.Running.{HasAnswered, HasRun}
+
+-- ---- with the exit number of an answer, the clauses hold of an answer of its kind
+
+module _ (old new : BenchState) where
+  done : HasRun old new status.Done → HasAnswered old new 0
+  done ran = record { most = omega arith; done = λ _. ran; outside = λ e. search rules; words = λ e. search rules; text = λ e. search rules; faults = λ e. search rules; memory = λ e. search rules }
+
+  outside : HasRun old new (status.Refused refusal.ReadFault) ⊎ HasRun old new (status.Refused refusal.WriteFault) → HasAnswered old new 1
+  outside ran = record { most = omega arith; done = λ e. search rules; outside = λ _. ran; words = λ e. search rules; text = λ e. search rules; faults = λ e. search rules; memory = λ e. search rules }
+
+  words : (word : ℕ) → HasRun old new (status.Refused (refusal.BadWords word)) → HasAnswered old new 2
+  words word ran = record { most = omega arith; done = λ e. search rules; outside = λ e. search rules; words = λ _. (word, ran); text = λ e. search rules; faults = λ e. search rules; memory = λ e. search rules }
+
+  text : (place : Inlet) (bad : BadText) → HasRun old new (status.Refused (refusal_for place bad)) → HasAnswered old new 3
+  text place bad ran = record { most = omega arith; done = λ e. search rules; outside = λ e. search rules; words = λ e. search rules; text = λ _. (place, bad, ran); faults = λ e. search rules; memory = λ e. search rules }
+
+  faults : (why : DataFault) → HasRun old new (status.Refused (refusal_of why)) → HasAnswered old new 4
+  faults why ran = record { most = omega arith; done = λ e. search rules; outside = λ e. search rules; words = λ e. search rules; text = λ e. search rules; faults = λ _. (why, ran); memory = λ e. search rules }
+
+  memory : HasRun old new (status.Refused refusal.NoMemory) → HasAnswered old new 5
+  memory ran = record { most = omega arith; done = λ e. search rules; outside = λ e. search rules; words = λ e. search rules; text = λ e. search rules; faults = λ e. search rules; memory = λ _. ran }
+
+  pub has_answered : (answer : Status) → HasRun old new answer → HasAnswered old new (exit_number answer)
+  has_answered status.Done ran = done ran
+  has_answered (status.Refused refusal.ReadFault) ran = outside (inl ran)
+  has_answered (status.Refused refusal.WriteFault) ran = outside (inr ran)
+  has_answered (status.Refused (refusal.BadWords word)) ran = words word ran
+  has_answered (status.Refused refusal.SideTooLong) ran = text inlet.Side cmd.Long ran
+  has_answered (status.Refused (refusal.BadSide row)) ran = text inlet.Side (cmd.Row row) ran
+  has_answered (status.Refused refusal.ScriptTooLong) ran = text inlet.Main cmd.Long ran
+  has_answered (status.Refused (refusal.BadScript row)) ran = text inlet.Main (cmd.Row row) ran
+  has_answered (status.Refused (refusal.CutRecord t)) ran = faults (fault.CutRecord t) ran
+  has_answered (status.Refused (refusal.SpareBit t)) ran = faults (fault.SpareBit t) ran
+  has_answered (status.Refused (refusal.BadStore byte kind)) ran = faults (fault.BadStore byte kind) ran
+  has_answered (status.Refused refusal.TooMany) ran = faults fault.TooMany ran
+  has_answered (status.Refused refusal.NoMemory) ran = memory ran
+
+-- ---- what a command over its desk leaves, by the clauses of `pocket`
 
 -- the clauses of `pocket` over a desk for one command
 pub record Ran (words : Words) (start after : CommandState) (answer : Status) : Type 0 where

@@ -9,9 +9,8 @@ use Rattle.desk_ports.specs.Meanings.{Meanings, left}
 use Rattle.desk_ports.specs.MemState.{mem_meanings}
 use Rattle.pocket_cmd.specs.Apart.{AreKeptAsMade}
 use Rattle.pocket_cmd.specs.Command.{Command, command_of, names_of}
-use Rattle.pocket_cmd.specs.Courses.{bad_row_of}
+use Rattle.pocket_cmd.specs.Courses.{bad_row_of, DataFault}
 use Rattle.pocket_cmd.specs.Delivery.{HasWritten, IsPlayedStore, IsSideRight, IsInputWhole}
-use Rattle.pocket_cmd.specs.Faults.{DataFault}
 use Rattle.pocket_cmd.specs.Kept.{Leaves}
 use Rattle.pocket_cmd.specs.Openings.{AreTold, side_given}
 use Rattle.pocket_cmd.specs.Outcome.{AfterRefusal, IsScriptFirst, IsSideJudged, IsTextBad, IsTextFirst, Stands, answer_to}

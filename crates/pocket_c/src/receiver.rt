@@ -1,8 +1,7 @@
 //! The calls of a receiver.
 
 ghost use Rattle.std.specs.Prelude.{◌≡◌, ℕ, ◌<◌, ◌↔◌, ◌++◌, ◌∷◌, [], List, Err, None, Some, length, drop};
-ghost use Rattle.ground_chain.specs.Reception.{next_judged};
-ghost use Rattle.ground_chain.specs.Reckoning.{HasJudged, Judges, Reckoning, nothing_judged};
+ghost use Rattle.ground_chain.specs.Reception.{next_judged, HasJudged, Judges, Reckoning, nothing_judged};
 ghost use Rattle.ground_chain.specs.Report.{kind_value, tells_mask_alone, written_bytes};
 ghost use Rattle.ground_chain.specs.Run.{Arrival};
 ghost use Rattle.packet_calls.specs.Refusals.{opening_fault};

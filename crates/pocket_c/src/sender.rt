@@ -3,9 +3,9 @@
 ghost use Rattle.std.specs.Prelude.{◌≡◌, ◌+◌, ◌<◌, ◌≤◌, Err, None, Some, length, drop, take};
 ghost use Rattle.mask_update.specs.Histories.{History, no_steps};
 ghost use Rattle.packet_encode.specs.Encoder.{StandsFor};
-ghost use Rattle.packet_encode.specs.Packets.{with_next_input};
+ghost use Rattle.packet_encode.specs.Forms.{with_next_input};
 ghost use Rattle.robust_window.specs.Histories.{level_at};
-ghost use Rattle.flight_chain.specs.Stores.{data_at};
+ghost use Rattle.flight_chain.specs.Compressing.{data_at};
 ghost use Rattle.packet_calls.specs.Sending.{SenderState, first_mask, given_mask, room_bits, room_bytes, vector_in};
 ghost use Rattle.packet_calls.specs.Refusals.{opening_fault};
 ghost use Rattle.pocket_c.specs.Answers.{opening_status, resetting_status, sending_status};

@@ -2,7 +2,7 @@
 
 ghost use Rattle.std.specs.Prelude.{◌≡◌, ◌≢◌, ◌↔◌, ◌∷◌, ◌++◌, [], None, Some, drop, length};
 ghost use Rattle.bit_vectors.specs.Vectors.{IsPlaces};
-ghost use Rattle.ground_chain.specs.Reckoning.{Reckoning};
+ghost use Rattle.ground_chain.specs.Reception.{Reckoning};
 ghost use Rattle.state_bytes.specs.Frames.{IsOther};
 ghost use Rattle.packet_calls.specs.Sending.{SenderState};
 ghost use Rattle.packet_calls.specs.States.{AreOfReceiver, AreOfSender, IsReceiverState, IsSenderState, receiver_kind, receiver_state, receiver_state_room, sender_kind, sender_state, sender_state_room};

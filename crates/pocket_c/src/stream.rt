@@ -1,7 +1,7 @@
 //! What a sender or a receiver tells of its stream.
 
 ghost use Rattle.std.specs.Prelude.{◌≡◌, ◌↔◌, ◌∷◌, [], None, Some, length};
-ghost use Rattle.ground_chain.specs.Reckoning.{Reckoning};
+ghost use Rattle.ground_chain.specs.Reception.{Reckoning};
 ghost use Rattle.packet_calls.specs.Sending.{SenderState};
 ghost use Rattle.pocket_c.specs.Kinds.{HasBench, HasOtherThanSender};
 ghost use Rattle.pocket_c.specs.Statuses.{IsOneOf, status_number};

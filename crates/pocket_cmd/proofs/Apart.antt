@@ -1,30 +1,36 @@
--- The names that right words give are apart, so that what each output made is kept under its name.
-use Rattle.std.proofs.Common.{◌≡◌, ℕ, ◌+◌, ◌==◌, ◌&&◌, ◌||◌, Bool, true, false, not, cond, is_some, List, [], ◌∷◌, ◌++◌, length, Option, Some, None, Ok, unwrap_or, IfSome, refl, sym, ap, ◌∙◌, subst, inl, inr, ◌⊎◌, codes, append_assoc, append-nil}
-use Rattle.std.specs.Prelude.{IsSome}
+-- Names that right words give are apart and granted, so that what each output made is kept under its name.
 use Rattle.std.specs.FinMap as map
+use Rattle.std.specs.List.{Contains}
 use Rattle.std.specs.Option.{option_map}
+use Rattle.std.specs.Prelude.{IsSome}
 use Rattle.std.specs.Str.{bytes_eq}
-use Rattle.desk_ports.specs.declared.desk.Inlet.TheVariants as inlet
-use Rattle.desk_ports.specs.declared.desk.Outlet.TheVariants as outlet
-use Rattle.desk_ports.specs.Courses.{Outputs, Ran, Course}
-use Rattle.desk_ports.specs.Meanings.{Kept, Meanings, kept_after, kept_at, made}
-use Rattle.desk_ports.proofs.Held.{kept_apart, kept_here}
+use Rattle.std.proofs.Common.{◌≡◌, ℕ, ◌+◌, ◌==◌, ◌&&◌, ◌||◌, Bool, true, false, not, cond, is_some, List, [], ◌∷◌, ◌++◌, length, Option, Some, None, Ok, unwrap_or, IfSome, refl, sym, ap, ◌∙◌, subst, inl, inr, ◌⊎◌, codes, append_assoc, append-nil, arith, ◌≢◌, zero, suc, IsTrue, Result, Err}
 use Rattle.std.proofs.lemmas.Option.{same_Some}
 use Rattle.std.proofs.lemmas.Slice.Eq.{bytes_eq-Decides}
+use Rattle.desk_ports.specs.Courses.{Outputs, Ran, Course}
+use Rattle.desk_ports.specs.Meanings.{Kept, Meanings, kept_after, kept_at, made, Counts}
+use Rattle.desk_ports.specs.declared.desk.Inlet.TheVariants as inlet
+use Rattle.desk_ports.specs.declared.desk.Outlet.TheVariants as outlet
+use Rattle.desk_ports.proofs.Desks.{kept_apart, kept_here}
+use Rattle.pocket_cmd.specs.Apart.{AreApart, AreKeptAsMade, IsNameToRead, IsNameToWrite}
+use Rattle.pocket_cmd.specs.Command.{Command, Names, command_of, name_at, names_of, AreGiven}
+use Rattle.pocket_cmd.specs.Courses.{bad_script_row_of, course_of, DataFault}
+use Rattle.pocket_cmd.specs.Openings.{all_finished, all_opened, with_input, with_output, with_report, with_text, AreGranted, AreTold, GrantsNames}
+use Rattle.pocket_cmd.specs.Outcome.{OnceAllRead, RunStands, Stands, left_to_open, IsAnswered, NoneRose, answer_to}
+use Rattle.pocket_cmd.specs.Status.{status_by}
+use Rattle.pocket_cmd.specs.Unfed.{EndsBy}
+use Rattle.pocket_cmd.specs.Verbs.{KeyRow, kind_of, verb_rows}
+use Rattle.pocket_cmd.specs.Words.{Words, fits, fits_key, has_key, is_name_read, is_right, is_split, is_text, is_name_written, key_in, name_of, text_in, text_of, wrong_word, AssignsToOne, keys_at, read_keys, written_keys}
+use Rattle.pocket_cmd.specs.declared.status.Refusal.{Refusal}
+use Rattle.pocket_cmd.specs.declared.status.Refusal.TheVariants as refusal
+use Rattle.pocket_cmd.specs.declared.status.Status.{Status}
+use Rattle.pocket_cmd.specs.declared.status.Status.TheVariants.{Refused}
 use Rattle.pocket_cmd.specs.declared.verbs.Port.{Port}
 use Rattle.pocket_cmd.specs.declared.verbs.Port.TheVariants as port
+use Rattle.pocket_cmd.specs.declared.verbs.Port.TheVariants.{Side, Input, Output, Report}
 use Rattle.pocket_cmd.specs.declared.verbs.ValueKind.{ValueKind}
 use Rattle.pocket_cmd.specs.declared.verbs.ValueKind.TheVariants.{Name}
-use Rattle.pocket_cmd.specs.Verbs.{KeyRow, kind_of, verb_rows}
-use Rattle.pocket_cmd.specs.Apart.{AreApart, AreKeptAsMade, IsNameToRead, IsNameToWrite}
-use Rattle.pocket_cmd.specs.Command.{Command, Names, command_of, name_at, names_of}
-use Rattle.pocket_cmd.specs.Courses.{bad_script_row_of, course_of}
-use Rattle.pocket_cmd.specs.Faults.{DataFault}
-use Rattle.pocket_cmd.specs.Openings.{all_finished, all_opened, with_input, with_output, with_report, with_text}
-use Rattle.pocket_cmd.specs.Outcome.{OnceAllRead, RunStands, Stands, left_to_open}
-use Rattle.pocket_cmd.specs.Unfed.{EndsBy}
-use Rattle.pocket_cmd.proofs.Given.{AreSound, IsCommand-command_of, IsKeyAt, both, key_at, key_for, keys_of, name_of-key_at, text_at}
-use Rattle.pocket_cmd.specs.Words.{Words, fits, fits_key, has_key, is_name_read, is_right, is_split, is_text, is_name_written, key_in, name_of, text_in, text_of, wrong_word}
+use Rattle.pocket_cmd.proofs.Given.{AreSound, IsCommand-command_of, IsKeyAt, both, key_at, key_for, keys_of, name_of-key_at, text_at, later}
 
 -- ---- tests
 
@@ -324,3 +330,52 @@ kept_as_made command old new apart e = by_script (bad_script_row_of command) e.a
   by_script (Some bad_row) e =
       let kept = run_kept (left_to_open (Some bad_row) names) _ _ new apart.written e.after.1 in
       record { output = kept.output; report = kept.report }
+
+-- ---- what words that give a command grant, and how its answer is told
+
+-- the names of a command are granted if all that words give to the keys of names are
+module _ (words : Words) (command : Command) (are_given : AreGiven words command) (m : Meanings) (all : GrantsNames words m) where
+  granted : (port : Port) (keys : List (List ℕ)) (grants : List ℕ → Bool) → ((key : List ℕ) → Contains (keys_at port) key → Contains keys key) → ((name : List ℕ) → AssignsToOne words keys name → IsTrue (grants name))
+      → IfSome (name_at command port) (λ name. IsTrue (grants name))
+  granted port keys grants among all = by_name (name_at command port) (are_given.names port) where
+    by_name : (o : Option (List ℕ)) → IfSome o (AssignsToOne words (keys_at port)) → IfSome o (λ name. IsTrue (grants name))
+    by_name None given = tt
+    by_name (Some name) (key, is, given) = all name (key, among key is, given)
+
+  is_input : (key : List ℕ) → Contains (keys_at Input) key → Contains read_keys key
+  is_input key (zero, within, e) = (0, omega arith, e)
+  is_input key (suc zero, within, e) = (2, omega arith, e)
+  is_input key (suc (suc n), within, e) = absurd (omega (arith, within))
+
+  is_output : (key : List ℕ) → Contains (keys_at Output) key → Contains written_keys key
+  is_output key (zero, within, e) = (0, omega arith, e)
+  is_output key (suc n, within, e) = absurd (omega (arith, within))
+
+  is_report : (key : List ℕ) → Contains (keys_at Report) key → Contains written_keys key
+  is_report key (zero, within, e) = (1, omega arith, e)
+  is_report key (suc n, within, e) = absurd (omega (arith, within))
+
+  granted_name : (o : Option (List ℕ)) → IsSome o → IfSome o (λ name. IsTrue (m.grants_out name)) → IsTrue (m.grants_out (unwrap_or o []))
+  granted_name None some is = absurd cc
+  granted_name (Some name) some is = is
+
+  pub AreGranted-command : AreGranted (names_of command) m
+  AreGranted-command = (
+    granted Side read_keys m.grants_in (later (codes "in") (keys_at Side)) all.reads,
+    granted Input read_keys m.grants_in is_input all.reads,
+    granted_name (name_at command Output) are_given.output (granted Output written_keys m.grants_out is_output all.writes),
+    granted Report written_keys m.grants_out is_report all.writes,
+  )
+
+-- words give a command or have a fault
+pub not_both : {r : Result Command ℕ} {command : Command} {word : ℕ} → r ≡ Ok command → r ≡ Err word → ⊥
+not_both one other = cc
+
+pub same_command : {r : Result Command ℕ} {one other : Command} → r ≡ Ok one → r ≡ Ok other → one ≡ other
+same_command one other = cc
+
+-- the answer of the command that the words give
+pub ends_for : {r : Result Command ℕ} (one other : Command) → r ≡ Ok one → r ≡ Ok other → (m : Meanings) (old new : Counts) (answer : Result (Unit {0}) Refusal) (status : Status) → status ≡ status_by answer → IsAnswered one m old new answer
+    → (text input : List ℕ) → AreTold (names_of other) m text input → status ≢ Refused refusal.NoMemory → NoneRose old new → status ≡ answer_to other text input
+ends_for one other is also m old new answer status told answered text input inputs memory none =
+    told ∙ subst (λ command. IsAnswered command m old new answer) (same_command is also) answered text input inputs.0 inputs.1 (λ e. memory (told ∙ e)) none.0 none.1

@@ -1,17 +1,23 @@
--- A course whose fault is named otherwise, and the refusal for a fault of a chain.
-use Rattle.std.proofs.Common.{◌≡◌, ℕ, true, List, Option, Some, None, Ok, Err, refl, sym, ap, subst}
+-- Courses whose fault is named otherwise, refusals for faults of chains, and how a trial may be refused.
 use Rattle.std.specs.Option.{option_map}
-use Rattle.desk_ports.specs.Stop.{Stop}
-use Rattle.desk_ports.specs.Stop.{Data, ReadFault, WriteFault}
-use Rattle.desk_ports.specs.Meanings.{Meanings, Counts}
-use Rattle.desk_ports.specs.Courses.{Outputs, Course, by_ending, owed, Went, Ends, AreFronts, AfterStop, HasCause}
-use Rattle.pocket_cmd.specs.Courses.{with_fault}
-use Rattle.pocket_cmd.specs.declared.status.Refusal.{Refusal}
+use Rattle.std.proofs.Common.{◌≡◌, ℕ, true, List, Option, Some, None, Ok, Err, refl, sym, ap, subst, ◌⊎◌, ◌<◌, Bool, false, [], length, inl, inr, arith}
+use Rattle.desk_ports.specs.Courses.{Outputs, Course, by_ending, owed, Went, Ends, AreFronts, AfterStop, HasCause, to_output}
+use Rattle.desk_ports.specs.Meanings.{Stop, Data, ReadFault, WriteFault, Meanings, Counts}
+use Rattle.desk_ports.specs.Turns.{Wrote, WroteFront}
+use Rattle.desk_ports.specs.declared.desk.Inlet.TheVariants as inlet
+use Rattle.pocket_cmd.specs.Command.{names_of}
+use Rattle.pocket_cmd.specs.Courses.{with_fault, DataFault, stop_with, course_of, text_course}
+use Rattle.pocket_cmd.specs.Courses as fault
 use Rattle.pocket_cmd.specs.Jobs.{AfterJob}
-use Rattle.pocket_cmd.specs.Faults.{DataFault, stop_with}
-use Rattle.pocket_cmd.specs.Faults as fault
+use Rattle.pocket_cmd.specs.Outcome.{AfterRefusal, AfterTextClass, HasRunReadFailed, IsTooLong, HasReadFailed, Stands}
 use Rattle.pocket_cmd.specs.Status.{HasClassCause, IsEnded, class_of, refusal_by, refusal_of}
 use Rattle.pocket_cmd.specs.Status as class
+use Rattle.pocket_cmd.specs.Words.{Words}
+use Rattle.pocket_cmd.specs.declared.status.Refusal.{Refusal}
+use Rattle.pocket_cmd.specs.declared.status.Refusal.TheVariants as refusal
+use Rattle.pocket_cmd.specs.declared.verbs.Verb.TheVariants.{Trial}
+
+-- ---- A course whose fault is named otherwise, and the refusal for a fault of a chain
 
 by_ending-named : {F G : Type 0} (name : F → G) (ending : Option F) (before after : Outputs) → by_ending ending before after ≡ by_ending (option_map name ending) before after
 by_ending-named name None before after = refl
@@ -70,3 +76,56 @@ HasClassCause-stop {F = F} name old new stop refusal e is = subst (λ why. HasCl
   by_stop (Data f) e = subst (HasClassCause old new) (sym (class-refusal_of (name f))) e
   by_stop ReadFault e = e
   by_stop WriteFault e = e
+
+-- ---- how a trial may be refused
+
+long-trial : (t : Words) (old new : Meanings) → IsTooLong inlet.Side None old new → ⊥
+long-trial t old new e = none e.long where
+  none : 1048576 < length {A = ℕ} [] → ⊥
+  none h = omega (arith, h)
+
+no_name : ◌≡◌ {A = Bool} false true → ⊥
+no_name e = cc
+
+unread-run : (course : List ℕ → Course DataFault) (t : Words) (old new : Meanings) → HasRunReadFailed (names_of (Trial, t)) course old new → ⊥
+unread-run course t old new (inl e) = no_name e.0
+unread-run course t old new (inr e) = e.after
+
+unread-trial : (t : Words) (old new : Meanings) → HasReadFailed (Trial, t) old new → ⊥
+unread-trial t old new (inl e) = no_name e.0
+unread-trial t old new (inr e) = by_run e.after where
+  by_run : AfterTextClass (Trial, t) e.text old new class.Reading → ⊥
+  by_run (inl (inl not_begun)) = not_begun.0
+  by_run (inl (inr not_begun)) = not_begun.1
+  by_run (inr run) = unread-run (course_of (Trial, t) e.text) t old new run.1
+
+ended-trial : (t : Words) (old new : Meanings) (fault : DataFault) → Stands (Trial, t) old new (Some fault) → ⊥
+ended-trial t old new fault e = none e.after.1.after.ran.ends where
+  none : ◌≡◌ {A = Option DataFault} None (Some fault) → ⊥
+  none e = cc
+
+pub refused-trial : (t : Words) (old new : Meanings) (why : Refusal) → AfterRefusal (Trial, t) old new why → (why ≡ refusal.WriteFault) ⊎ (why ≡ refusal.NoMemory)
+refused-trial t old new (refusal.BadWords word) e = absurd e
+refused-trial t old new refusal.SideTooLong e = absurd (long-trial t old new e)
+refused-trial t old new refusal.ScriptTooLong e = absurd e.after.1
+refused-trial t old new (refusal.BadScript row) e = absurd e.after.1
+refused-trial t old new (refusal.BadSide row) e = absurd (row-trial e.after.0) where
+  row-trial : ◌≡◌ {A = Option ℕ} None (Some row) → ⊥
+  row-trial e = cc
+refused-trial t old new refusal.ReadFault e = absurd (unread-trial t old new e)
+refused-trial t old new refusal.WriteFault e = inl refl
+refused-trial t old new (refusal.CutRecord n) e = absurd (ended-trial t old new _ e)
+refused-trial t old new (refusal.SpareBit n) e = absurd (ended-trial t old new _ e)
+refused-trial t old new (refusal.BadStore byte kind) e = absurd (ended-trial t old new _ e)
+refused-trial t old new refusal.TooMany e = absurd (ended-trial t old new _ e)
+refused-trial t old new refusal.NoMemory e = inr refl
+
+-- ---- A text that is written when there is no input
+
+-- it is written
+pub IsEnded-text : (text : List ℕ) (old new : Meanings) → Wrote old new (to_output text) → IsEnded (AfterJob false (λ input. text_course text) old new) (Ok tt)
+IsEnded-text text old new wrote = record { ended = Ok tt; over = record { ran = wrote; ends = refl }; answered = refl }
+
+-- a front of it is
+pub IsEnded-text_cut : (text : List ℕ) (old new : Meanings) → WroteFront old new (to_output text) → IsEnded (AfterJob false (λ input. text_course text) old new) (Err refusal.WriteFault)
+IsEnded-text_cut text old new front = record { ended = Err WriteFault; over = record { stand = front.stand; ran = front.wrote; fronts = front.fronts }; answered = refl }

@@ -1,23 +1,62 @@
--- What right words give: values within their bounds, and no name that no word gives.
-use Rattle.std.proofs.Common.{◌≡◌, ℕ, ◌+◌, ◌<◌, ◌≤◌, ◌&&◌, ◌||◌, Bool, true, false, not, cond, eqb, nat_le, nat_lt, is_some, List, [], ◌∷◌, ◌++◌, length, get_or, Option, Some, None, Result, Ok, refl, sym, ap, ◌∙◌, subst, codes, add-one, arith}
-use Rattle.std.specs.Prelude.{IfSome, IsSome, if◌then◌else◌}
+-- What right words give: values within their bounds, masks that digits denote, and no name that no word gives.
 use Rattle.std.specs.List.{Contains, list_any, position_or_len}
+use Rattle.std.specs.Option.{option_map}
+use Rattle.std.specs.Prelude.{IfSome, IsSome, if◌then◌else◌, ◌%◌}
 use Rattle.std.specs.Str.{bytes_eq}
+use Rattle.std.specs.Str.Parse.{digits_value}
+use Rattle.std.proofs.Common.{◌≡◌, ℕ, ◌≤◌, ◌&&◌, Bool, true, false, cond, nat_le, is_some, unwrap_or, List, Some, None, refl, sym, subst, arith, ◌+◌, ◌<◌, ◌||◌, not, eqb, nat_lt, [], ◌∷◌, ◌++◌, length, get_or, Option, Result, Ok, ap, ◌∙◌, codes, add-one, ◌*◌, ◌/◌, ◌==◌, take, Err}
 use Rattle.std.proofs.lemmas.Bool.Decides.{nat_tests}
-use Rattle.std.proofs.lemmas.Map.Views.{Contains-from_any}
+use Rattle.std.proofs.lemmas.List.{length-replicate, length-take-le}
 use Rattle.std.proofs.lemmas.List.Sums.{split_at_first, passes_at_first}
+use Rattle.std.proofs.lemmas.Map.Views.{Contains-from_any}
+use Rattle.std.proofs.lemmas.Option.{same_Some}
 use Rattle.std.proofs.lemmas.Slice.Eq.{bytes_eq-Decides}
-use Rattle.pocket_cmd.specs.declared.verbs.Verb.{Verb}
-use Rattle.pocket_cmd.specs.declared.verbs.Verb.TheVariants as verb
+use Rattle.hex.specs.Hex.{decode_sized, decode_pairs}
+use Rattle.hex.specs.declared.error.FromHexError.{FromHexError}
+use Rattle.hex.specs.declared.error.FromHexError.TheVariants.{OddLength, InvalidStringLength}
+use Rattle.hex.proofs.HexLemmas.{decode_pairs-ok}
+use Rattle.bit_vectors.specs.Vectors.{IsPlaces, bits_of, byte_count, has_spare_bit}
+use Rattle.bit_vectors.proofs.NumberBits.{length-bits_of}
+use Rattle.side_tables.specs.Numbers.{is_plain_decimal, number_of}
+use Rattle.pocket_cmd.specs.Command.{AreGiven, AreInBounds, Command, IsRight, IsInBounds, command_after, command_of, unless_fault}
+use Rattle.pocket_cmd.specs.Masks.{first_mask, mask_bytes, mask_of, no_mask, unless_spare}
+use Rattle.pocket_cmd.specs.Verbs.{KeyRow, is_name_at, kind_of, verb_rows, verb_of}
+use Rattle.pocket_cmd.specs.Words.{number_told, Words, Assigns, AssignsToOne, bits, fault_of, fits_key, has_key, is_equals_sign, is_missing, is_right, is_split, key_in, keys_at, name_of, number_at, or_missing, or_word, text_in, text_of, wrong_mask, wrong_word}
 use Rattle.pocket_cmd.specs.declared.verbs.Port.{Port}
 use Rattle.pocket_cmd.specs.declared.verbs.Port.TheVariants as port
 use Rattle.pocket_cmd.specs.declared.verbs.ValueKind.{ValueKind}
 use Rattle.pocket_cmd.specs.declared.verbs.ValueKind.TheVariants.{Name, Number, Mask}
-use Rattle.pocket_cmd.specs.Verbs.{KeyRow, is_name_at, kind_of, verb_rows, verb_of}
-use Rattle.pocket_cmd.specs.Words.{Words, Assigns, AssignsToOne, bits, fault_of, fits_key, has_key, is_equals_sign, is_missing, is_right, is_split, key_in, keys_at, name_of, number_at, number_told, or_missing, or_word, text_in, text_of, wrong_mask, wrong_word}
-use Rattle.bit_vectors.specs.Vectors.{IsPlaces}
-use Rattle.pocket_cmd.specs.Command.{AreGiven, AreInBounds, Command, IsRight, IsInBounds, command_after, command_of, unless_fault}
-use Rattle.pocket_cmd.proofs.Bounds.{number_told-bounds}
+use Rattle.pocket_cmd.specs.declared.verbs.Verb.{Verb}
+use Rattle.pocket_cmd.specs.declared.verbs.Verb.TheVariants as verb
+
+-- ---- A number that a text says is within the bounds that it was looked at with
+
+all_three : (a b c : Bool) (x : ℕ) → is_some (cond (a && b && c) (Some x) None) ≡ true → (a ≡ true) × (b ≡ true) × (c ≡ true)
+all_three true true true x e = (refl, refl, refl)
+all_three true true false x e = absurd cc
+all_three true false c x e = absurd cc
+all_three false b c x e = absurd cc
+
+found : (a b c : Bool) (x : ℕ) → a ≡ true → b ≡ true → c ≡ true → unwrap_or (cond (a && b && c) (Some x) None) 0 ≡ x
+found true true true x p q r = refl
+found true true false x p q r = absurd cc
+found true false c x p q r = absurd cc
+found false b c x p q r = absurd cc
+
+above : (m n : ℕ) → nat_le m n ≡ true → m ≤ n
+above m n h = grind (arith, nat_tests)
+
+test : (m n : ℕ) → m ≤ n → nat_le m n ≡ true
+test m n h = grind (arith, nat_tests)
+
+pub number_told-bounds : (low high : ℕ) (text : List ℕ) → high ≤ 4294967295 → is_some (number_of low high text) ≡ true → (low ≤ number_told (Some text)) × (number_told (Some text) ≤ high)
+number_told-bounds low high text most is =
+    let value : ℕ = digits_value 10 text in
+    let tests = all_three (is_plain_decimal text) (nat_le low value) (nat_le value high) value is in
+    let least : low ≤ value = above low value tests.1 in
+    let greatest : value ≤ high = above value high tests.2 in
+    let same : number_told (Some text) ≡ value = found (is_plain_decimal text) (nat_le 0 value) (nat_le value 4294967295) value tests.0 (test 0 value (omega arith)) (test value 4294967295 (omega arith)) in
+    (subst (λ n. low ≤ n) (sym same) least, subst (λ n. n ≤ high) (sym same) greatest)
 
 -- ---- a word and its parts
 
@@ -284,3 +323,45 @@ IsPlaces-with_mask v words right whole given = by_kind (kind_of (verb_rows v) (c
   by_kind : (o : Option ValueKind) → kind_of (verb_rows v) (codes "mask") ≡ o → HasPlaces (verb_rows v) o → IsPlaces (bits words)
   by_kind None is places = absurd (none (text_of words (codes "mask")) refl given is)
   by_kind (Some kind) is (places, need) = number_at-within (verb_rows v) words (codes "bits") 1 49152 (record { right = right; whole = whole }) places need (omega arith)
+
+-- ---- masks that hexadecimal digits denote
+
+abbrev pub one_of : List Bool → Bool
+one_of bits = list_any (λ bit. bit) bits
+
+-- what decodes into room for n bytes is n bytes
+decode_sized-length : (s bytes : List ℕ) (n : ℕ) → decode_sized s n ≡ Ok bytes → length bytes ≡ n
+decode_sized-length s bytes n e = by_tests (length s % 2 == 1) (length s / 2 == n) refl e where
+  by_tests : (odd half : Bool) → length s / 2 == n ≡ half → cond odd (Err OddLength) (cond half (decode_pairs 0 s) (Err InvalidStringLength)) ≡ Ok bytes → length bytes ≡ n
+  by_tests true half at e = absurd cc
+  by_tests false false at e = absurd cc
+  by_tests false true at e =
+      let same : length s / 2 ≡ n = grind (arith, nat_tests) in
+      let twice = (decode_pairs-ok 0 s bytes e).1 in
+      omega (arith, twice, same)
+
+decoded : (f : ℕ) (r : Result (List ℕ) FromHexError) (bytes : List ℕ) → unless_spare f r ≡ Some bytes → r ≡ Ok bytes
+decoded f (Err error) bytes e = absurd cc
+decoded f (Ok found) bytes e = by_spare (has_spare_bit f found) e where
+  by_spare : (b : Bool) → cond b None (Some found) ≡ Some bytes → ◌≡◌ {A = Result (List ℕ) FromHexError} (Ok found) (Ok bytes)
+  by_spare true e = absurd cc
+  by_spare false e = cc
+
+-- a mask has f places
+length-mask_of : (f : ℕ) (text : List ℕ) (mask : List Bool) → mask_of f text ≡ Some mask → length mask ≡ f
+length-mask_of f text mask e = by_bytes (mask_bytes f text) refl e where
+  by_bytes : (o : Option (List ℕ)) → mask_bytes f text ≡ o → option_map (λ bytes. take f (bits_of bytes)) o ≡ Some mask → length mask ≡ f
+  by_bytes None at e = absurd cc
+  by_bytes (Some bytes) at e =
+      let len = decode_sized-length text bytes (byte_count f) (decoded f (decode_sized text (byte_count f)) bytes at) in
+      let bits = length-bits_of bytes in
+      let some : f ≤ 8 * byte_count f = omega arith in
+      let all : f ≤ length (bits_of bytes) = omega (arith, len, bits, some) in
+      sym (ap length (same_Some _ _ e)) ∙ length-take-le f (bits_of bytes) all
+
+pub length-first_mask : (f : ℕ) (text : Option (List ℕ)) → length (first_mask f text) ≡ f
+length-first_mask f None = length-replicate f false
+length-first_mask f (Some text) = by_mask (mask_of f text) refl where
+  by_mask : (o : Option (List Bool)) → mask_of f text ≡ o → length (unwrap_or o (no_mask f)) ≡ f
+  by_mask None is = length-replicate f false
+  by_mask (Some mask) is = length-mask_of f text mask is

@@ -1,22 +1,28 @@
--- What a command answers to a text in which something is wrong, at every desk.
-use Rattle.std.proofs.Common.{◌≡◌, ◌≢◌, ℕ, ◌<◌, ◌≤◌, List, length, Option, Some, None, IfSome, Result, Ok, Err, inl, inr, refl, sym, ap, ◌∙◌, subst, arith}
+-- What a command answers to a text in which something is wrong or whose reading failed.
+use Rattle.std.specs.Io.KnownBytes.{prepend_known}
+use Rattle.std.specs.Option.{option_map}
+use Rattle.std.specs.Prelude.{OnErr}
+use Rattle.std.proofs.Common.{◌≡◌, ◌≢◌, ℕ, ◌<◌, ◌≤◌, List, length, Option, Some, None, IfSome, Result, Ok, Err, inl, inr, refl, sym, ap, ◌∙◌, subst, arith, drop, ◌++◌, true}
+use Rattle.std.proofs.lemmas.List.{drop_at, length-append}
+use Rattle.std.proofs.lemmas.Option.{same_Some}
+use Rattle.desk_ports.specs.Meanings.{Meanings, Counts, Rose, left, Incoming, Kept, Moves, Opens, kept_at, with_incoming, with_left}
 use Rattle.desk_ports.specs.declared.desk.Inlet.{Inlet}
 use Rattle.desk_ports.specs.declared.desk.Inlet.TheVariants as inlet
-use Rattle.desk_ports.specs.Meanings.{Meanings}
+use Rattle.desk_ports.proofs.Desks.{Rose-reads}
 use Rattle.side_tables.specs.Grammar.{bad_copy_row, bad_schedule_row}
-use Rattle.pocket_cmd.specs.declared.status.Status.TheVariants.{Refused}
-use Rattle.pocket_cmd.specs.declared.status.Refusal.{Refusal}
-use Rattle.pocket_cmd.specs.declared.status.Refusal.TheVariants as refusal
-use Rattle.pocket_cmd.specs.declared.verbs.Verb.TheVariants.{Forecast}
 use Rattle.pocket_cmd.specs.Command.{Command, names_of}
 use Rattle.pocket_cmd.specs.Courses.{bad_row_of}
 use Rattle.pocket_cmd.specs.Delivery.{IsSideRight}
-use Rattle.pocket_cmd.specs.Openings.{AreTold, IsText, IsTextCutOff, given_at, side_given, with_text}
-use Rattle.pocket_cmd.specs.Outcome.{AfterCommand, AfterRefusal, AfterTextClass, HasBadText, HasTextReadFailed, IsScriptFirst, IsTextBad, IsTextFirst}
-use Rattle.pocket_cmd.specs.Status.{BadText, refusal_for, status_by}
+use Rattle.pocket_cmd.specs.Openings.{AreTold, IsText, IsTextCutOff, given_at, side_given, with_text, IsTextUnread, told_bytes}
+use Rattle.pocket_cmd.specs.Outcome.{AfterCommand, AfterRefusal, AfterTextClass, HasBadText, HasTextReadFailed, IsScriptFirst, IsTextBad, IsTextFirst, IsSideJudged}
+use Rattle.pocket_cmd.specs.Status.{BadText, refusal_for, status_by, HasStatusCause}
 use Rattle.pocket_cmd.specs.Status as class
 use Rattle.pocket_cmd.specs.Words.{Words}
-use Rattle.pocket_cmd.proofs.Delivered.{given-with_side, text_is}
+use Rattle.pocket_cmd.specs.declared.status.Refusal.{Refusal}
+use Rattle.pocket_cmd.specs.declared.status.Refusal.TheVariants as refusal
+use Rattle.pocket_cmd.specs.declared.status.Status.TheVariants.{Refused}
+use Rattle.pocket_cmd.specs.declared.verbs.Verb.TheVariants.{Forecast}
+use Rattle.pocket_cmd.proofs.Performed.{given-with_side, text_is, AfterRefusal-answer}
 
 -- ---- a text that is told
 
@@ -128,3 +134,70 @@ module _ (words : Words) (old new : Meanings) (plan script : List ℕ) (told : A
   pub script-first : (r : Result (Unit {0}) Refusal) → AfterCommand (Forecast, words) old new r → status_by r ≢ Refused refusal.NoMemory → IsScriptFirst (names_of (Forecast, words)).side old plan script bad new (status_by r)
   script-first (Ok done) e memory = absurd (not_script e.after.1.text e.after.1.told e.after.1.within e.after.1.after.0)
   script-first (Err why) e memory = script_by why e memory
+
+-- ---- which side text is refused
+
+-- a text that is too long was read to its limit and one byte
+pub left-too_long : (command : Command) (text : List ℕ) (old new : Meanings) (r : Result (Unit {0}) Refusal) → AfterCommand command old new r
+    → side_given old (names_of command).side ≡ Some text → status_by r ≡ Refused refusal.SideTooLong → left new inlet.Side ≡ Some (drop 1048577 text)
+left-too_long command text old new r e told is =
+    subst (λ o. IfSome o (λ bytes. left new inlet.Side ≡ Some (drop 1048577 bytes))) told (AfterRefusal-answer command old new r refusal.SideTooLong e is).read
+
+-- each answer that refuses a side text does so for its text, and if no reading failed, what is wrong with it is answered
+pub IsSideJudged-answer : (command : Command) (text : List ℕ) (old new : Meanings) (counts after : Counts) (r : Result (Unit {0}) Refusal) → AfterCommand command old new r → HasStatusCause counts after (status_by r)
+    → side_given old (names_of command).side ≡ Some text → status_by r ≢ Refused refusal.NoMemory → ¬ Rose counts.reads after.reads → IsSideJudged command text (status_by r)
+IsSideJudged-answer command text old new counts after r e cause told memory reads = λ bad. (λ is. wrong bad is, λ is. answered bad is) where
+  wrong : (bad : class.BadText) → status_by r ≡ Refused (refusal_for inlet.Side bad) → IsTextBad (bad_row_of command) text bad
+  wrong class.Long is = subst (λ o. IfSome o (λ bytes. 1048576 < length bytes)) told (AfterRefusal-answer command old new r refusal.SideTooLong e is).long
+  wrong (class.Row row) is =
+      let refused = AfterRefusal-answer command old new r (refusal.BadSide row) e is in
+      subst (λ text. (length text ≤ 1048576) × (bad_row_of command text ≡ Some row)) (text_is (side_given old (names_of command).side) refused.text text refused.told told) (refused.within, refused.after.0)
+
+  by_reading : (bad : class.BadText) → IsTextFirst inlet.Side old text bad new (status_by r) → status_by r ≡ Refused (refusal_for inlet.Side bad)
+  by_reading bad (inl is) = is
+  by_reading bad (inr lost) = absurd (reads (Rose-reads counts after (subst (HasStatusCause counts after) lost.0 cause)))
+
+  answered : (bad : class.BadText) → IsTextBad (bad_row_of command) text bad → status_by r ≡ Refused (refusal_for inlet.Side bad)
+  answered bad is = by_reading bad (side-first command old new text told bad is r e memory)
+
+-- ---- what a failed reading of a text leaves
+
+pub OnErr-by : {T E P Q : Type 0} (r : Result T E) → (P → Q) → OnErr r P → OnErr r Q
+OnErr-by (Ok x) f e = e
+OnErr-by (Err x) f e = f e
+
+-- ---- an inlet of which this is told
+
+pub left-told : (m : Meanings) (i : Inlet) (told : Incoming) → left (with_incoming m i told) i ≡ told.left
+left-told m inlet.Side told = refl
+left-told m inlet.Main told = refl
+
+pub with_left-told : (m : Meanings) (i : Inlet) (told : Incoming) (bytes : Option (List ℕ)) → with_left (with_incoming m i told) i bytes ≡ with_incoming m i (record told { left = bytes })
+with_left-told m inlet.Side told bytes = refl
+with_left-told m inlet.Main told bytes = refl
+
+-- ---- a failed reading
+
+-- these bytes of the text were read
+cut_off : (most : ℕ) (i : Inlet) (old new : Meanings) (bytes rest : List ℕ) → length bytes < most → new ≡ with_incoming old i (record { left = Some rest; ready = true }) → IsTextCutOff most old i (bytes ++ rest) new
+cut_off most i old new bytes rest few is = inr (
+  length bytes,
+  few,
+  omega (arith, length-append bytes rest),
+  is ∙ ap (λ (rest : List ℕ). with_incoming old i (record { left = Some rest; ready = true })) (sym (drop_at bytes rest (length bytes) refl)),
+)
+
+by_told : (most : ℕ) (i : Inlet) (old new : Meanings) (held : Option Kept) (before after : Option (List ℕ)) (name opened bytes : List ℕ) → IfSome held (λ kept. opened ≡ kept_at kept name) → option_map (λ _. opened) before ≡ prepend_known bytes after
+    → length bytes < most → new ≡ with_incoming old i (record { left = after; ready = true }) → IfSome (told_bytes held before name) (λ text. IsTextCutOff most old i text new)
+by_told most i old new None before after name opened bytes kept moved few is = tt
+by_told most i old new (Some k) None after name opened bytes kept moved few is = tt
+by_told most i old new (Some k) (Some b) None name opened bytes kept moved few is = absurd cc
+by_told most i old new (Some k) (Some b) (Some rest) name opened bytes kept moved few is =
+    subst (λ text. IsTextCutOff most old i text new) (sym (same_Some _ _ moved) ∙ kept) (cut_off most i old new bytes rest few is)
+
+-- the inlet was opened, and a read failed after these bytes
+pub IsTextUnread-lost : (most : ℕ) (i : Inlet) (old mid new : Meanings) (name bytes : List ℕ) → Opens old mid i name → length bytes < most → Moves mid new i bytes → IsTextUnread most old i (Some name) new
+IsTextUnread-lost most i old mid new name bytes opens few moves =
+    let told : Incoming = record { left = option_map (λ _. opens.bytes) (left old i); ready = true } in
+    by_told most i old new old.held (left old i) (left new i) name opens.bytes bytes opens.kept (sym (ap (λ (m : Meanings). left m i) opens.others ∙ left-told old i told) ∙ moves.moved) few
+    (moves.others ∙ (ap (λ (m : Meanings). with_left m i (left new i)) opens.others ∙ with_left-told old i told (left new i)))

@@ -1,26 +1,59 @@
--- What each command is to do.
-use Rattle.std.specs.Prelude.{ℕ, List, [], Option, Some, None}
+-- What each command is to do, and what may be wrong with its data.
 use Rattle.std.specs.Option.{option_map}
+use Rattle.std.specs.Prelude.{ℕ, List, [], Option, Some, None}
 use Rattle.desk_ports.specs.Courses.{Course, to_output}
+use Rattle.desk_ports.specs.Meanings.{Stop, Data, ReadFault, WriteFault}
 use Rattle.side_tables.specs.Grammar.{schedule_rows_of, copy_rows_of, bad_schedule_row, bad_copy_row}
 use Rattle.side_tables.specs.Rows.{copies_of}
 use Rattle.side_tables.specs.Streams.{bad_stream_row, streams_of}
+use Rattle.packet_store.specs.declared.fault.StoreKind.{StoreKind}
+use Rattle.packet_store.specs.declared.fault.WalkFault.{WalkFault}
+use Rattle.packet_store.specs.declared.fault.WalkFault.TheVariants as walk_fault
 use Rattle.flight_chain.specs.Compressing.{Compression, compress_course}
+use Rattle.flight_chain.specs.declared.fault.RecordFault.{RecordFault}
+use Rattle.flight_chain.specs.declared.fault.RecordFault.TheVariants as record_fault
 use Rattle.loss_player.specs.Playing.{play_course}
 use Rattle.ground_chain.specs.Listing.{listing_course}
 use Rattle.ground_chain.specs.Restoring.{restore_course}
-use Rattle.late_window.specs.Restoring.{late_course}
-use Rattle.forecast.specs.Prospects.{prospect_of}
-use Rattle.forecast.specs.Texts.{forecast_text}
 use Rattle.multi_ground.specs.MultiOutputs.{multi_course}
-use Rattle.param_table.specs.Grammar.{bad_text_row, text_columns}
+use Rattle.late_window.specs.Restoring.{late_course}
+use Rattle.param_table.specs.Rows.{bad_text_row, text_columns}
 use Rattle.param_table.specs.Tabling.{Tabulation, table_course}
-use Rattle.pocket_cmd.specs.Faults.{DataFault, of_recording, of_store}
-use Rattle.pocket_cmd.specs.declared.verbs.Verb.{Verb}
-use Rattle.pocket_cmd.specs.declared.verbs.Verb.TheVariants.{Compress, Play, Restore, Show, Trial, Multi, Late, Table, Forecast}
+use Rattle.forecast.specs.Outlooks.{forecast_text}
+use Rattle.forecast.specs.Prospects.{prospect_of}
 use Rattle.pocket_cmd.specs.Command.{Command}
 use Rattle.pocket_cmd.specs.Summary.{summary_by}
 use Rattle.pocket_cmd.specs.Words.{Words, apid, bits, mask, packets, robust, window}
+use Rattle.pocket_cmd.specs.declared.verbs.Verb.{Verb}
+use Rattle.pocket_cmd.specs.declared.verbs.Verb.TheVariants.{Compress, Play, Restore, Show, Trial, Multi, Late, Table, Forecast}
+
+-- ---- what may be wrong with the data of a command, and why a run over them ended
+
+-- Why a recording or a store is not read to its end: the recording ends inside a packet, or has a spare bit set in it; the
+-- store has no good packet from a byte on; a byte follows the 4,294,967,296th packet.
+pub data DataFault : Type 0 where
+  CutRecord : ℕ → DataFault
+  SpareBit : ℕ → DataFault
+  BadStore : ℕ → StoreKind → DataFault
+  TooMany : DataFault
+
+-- the fault of a recording, and of a store
+abbrev pub of_recording : RecordFault → DataFault
+of_recording (record_fault.CutRecord t) = CutRecord t
+of_recording (record_fault.SpareBit t) = SpareBit t
+of_recording record_fault.TooMany = TooMany
+
+abbrev pub of_store : WalkFault → DataFault
+of_store (walk_fault.Bad byte kind) = BadStore byte kind
+of_store walk_fault.TooMany = TooMany
+
+-- the same reason to end a run, its fault named otherwise
+abbrev pub stop_with : {F G : Type 0} → (F → G) → Stop F → Stop G
+stop_with name (Data fault) = Data (name fault)
+stop_with name ReadFault = ReadFault
+stop_with name WriteFault = WriteFault
+
+-- ---- what each command is to do
 
 -- the same course, its fault named otherwise
 abbrev pub with_fault : {F G : Type 0} → (F → G) → Course F → Course G

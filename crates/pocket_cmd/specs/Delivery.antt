@@ -5,10 +5,8 @@ use Rattle.desk_ports.specs.Courses.{OutputTexts}
 use Rattle.desk_ports.specs.Meanings.{Meanings, made}
 use Rattle.mask_update.specs.Histories.{History, IsValid}
 use Rattle.flight_chain.specs.Recordings.{recording_walk}
-use Rattle.flight_chain.specs.Stores.{store_of}
-use Rattle.flight_chain.specs.Compressing.{history_by}
-use Rattle.loss_player.specs.Gaps.{AreGapsShort}
-use Rattle.loss_player.specs.Played.{played_bytes}
+use Rattle.flight_chain.specs.Compressing.{store_of, history_by}
+use Rattle.loss_player.specs.Played.{AreGapsShort, played_bytes}
 use Rattle.pocket_cmd.specs.declared.verbs.Verb.TheVariants.{Restore}
 use Rattle.pocket_cmd.specs.Command.{Command, Names, names_of}
 use Rattle.pocket_cmd.specs.Courses.{bad_row_of, bad_script_row_of, compression_by, course_of}

@@ -2,25 +2,21 @@
 use Rattle.std.specs.Prelude.{◌≡◌, ℕ, List, Bool, true, false, Option, Some, None, Result, Ok, Err, is_some}
 use Rattle.desk_ports.specs.declared.desk.Inlet.TheVariants as inlet
 use Rattle.desk_ports.specs.Courses.{Course}
-use Rattle.desk_ports.specs.Meanings.{Counts, Meanings}
-use Rattle.desk_ports.specs.Stop.{Stop}
-use Rattle.desk_ports.specs.Stop.{Data, ReadFault, WriteFault}
+use Rattle.desk_ports.specs.Meanings.{Counts, Meanings, Stop, Data, ReadFault, WriteFault}
 use Rattle.side_tables.specs.Rows.{copies_of}
 use Rattle.flight_chain.specs.Compressing.{compress_course}
 use Rattle.loss_player.specs.Playing.{play_course}
 use Rattle.ground_chain.specs.Listing.{listing_course}
 use Rattle.ground_chain.specs.Restoring.{restore_course}
 use Rattle.late_window.specs.Restoring.{late_course}
-use Rattle.forecast.specs.Outlooks.{foresees}
-use Rattle.forecast.specs.Texts.{forecast_text}
+use Rattle.forecast.specs.Outlooks.{foresees, forecast_text}
 use Rattle.multi_ground.specs.MultiOutputs.{multi_course}
 use Rattle.param_table.specs.Tabling.{table_course}
 use Rattle.pocket_cmd.specs.declared.job.Job.{Job}
 use Rattle.pocket_cmd.specs.declared.job.Job.TheVariants as job
 use Rattle.pocket_cmd.specs.declared.status.Refusal.{Refusal}
 use Rattle.pocket_cmd.specs.Command.{Command, Names, names_of}
-use Rattle.pocket_cmd.specs.Courses.{bad_row_of, bad_script_row_of, course_of, text_course, with_fault}
-use Rattle.pocket_cmd.specs.Faults.{DataFault, of_recording, of_store}
+use Rattle.pocket_cmd.specs.Courses.{bad_row_of, bad_script_row_of, course_of, text_course, with_fault, DataFault, of_recording, of_store}
 use Rattle.pocket_cmd.specs.Outcome.{IsNotBegun, OnceAllRead, OnceTextRead}
 use Rattle.pocket_cmd.specs.Status.{HasClassCause, class_of}
 use Rattle.pocket_cmd.specs.Unfed.{EndsBy, IsCutOffBy, IsCutShortBy}

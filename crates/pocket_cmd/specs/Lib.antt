@@ -2,7 +2,6 @@ pub mod Verbs
 pub mod Masks
 pub mod Words
 pub mod Command
-pub mod Faults
 pub mod Summary
 pub mod Courses
 pub mod Openings

@@ -3,16 +3,13 @@ use Rattle.std.specs.Prelude.{◌≡◌, ◌≢◌, ◌<◌, ◌≤◌, ◌↔�
 use Rattle.desk_ports.specs.declared.desk.Inlet.{Inlet}
 use Rattle.desk_ports.specs.declared.desk.Inlet.TheVariants as inlet
 use Rattle.desk_ports.specs.Courses.{Course}
-use Rattle.desk_ports.specs.Meanings.{Meanings, Counts, Rose}
-use Rattle.desk_ports.specs.Stop.{Stop}
-use Rattle.desk_ports.specs.Stop.{Data, ReadFault, WriteFault}
-use Rattle.pocket_cmd.specs.Faults.{DataFault}
+use Rattle.desk_ports.specs.Meanings.{Meanings, Counts, Rose, Stop, Data, ReadFault, WriteFault}
+use Rattle.pocket_cmd.specs.Courses.{DataFault, course_of, bad_row_of, bad_script_row_of}
 use Rattle.pocket_cmd.specs.declared.status.Status.{Status}
 use Rattle.pocket_cmd.specs.declared.status.Status.TheVariants.{Refused}
 use Rattle.pocket_cmd.specs.declared.status.Refusal.{Refusal}
 use Rattle.pocket_cmd.specs.declared.status.Refusal.TheVariants as refusal
 use Rattle.pocket_cmd.specs.Command.{Names, Command, names_of}
-use Rattle.pocket_cmd.specs.Courses.{course_of, bad_row_of, bad_script_row_of}
 use Rattle.pocket_cmd.specs.Unfed.{EndsBy, IsCutOffBy, IsCutShortBy}
 use Rattle.pocket_cmd.specs.Status.{BadText, Class, class_of, refusal_for, status_of, status_by}
 use Rattle.pocket_cmd.specs.Status as class

@@ -2,13 +2,12 @@
 use Rattle.std.specs.Prelude.{◌≡◌, ℕ, Option, Some, None, Result, Ok, Err}
 use Rattle.desk_ports.specs.declared.desk.Inlet.{Inlet}
 use Rattle.desk_ports.specs.declared.desk.Inlet.TheVariants as inlet
-use Rattle.desk_ports.specs.Meanings.{Counts, FailsToRead, FailsToWrite}
-use Rattle.desk_ports.specs.Stop.{Stop}
-use Rattle.desk_ports.specs.Stop as stop
+use Rattle.desk_ports.specs.Meanings.{Counts, FailsToRead, FailsToWrite, Stop}
+use Rattle.desk_ports.specs.Meanings as stop
 use Rattle.side_tables.specs.declared.fault.SideFault.{SideFault}
 use Rattle.side_tables.specs.declared.fault.SideFault.TheVariants as table
-use Rattle.pocket_cmd.specs.Faults.{DataFault}
-use Rattle.pocket_cmd.specs.Faults as fault
+use Rattle.pocket_cmd.specs.Courses.{DataFault}
+use Rattle.pocket_cmd.specs.Courses as fault
 use Rattle.pocket_cmd.specs.declared.text.TextFault.{TextFault}
 use Rattle.pocket_cmd.specs.declared.text.TextFault.TheVariants as unread
 use Rattle.pocket_cmd.specs.declared.status.Status.{Status}

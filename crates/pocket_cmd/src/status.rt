@@ -2,9 +2,9 @@
 ghost use Rattle.std.specs.Prelude.{◌≡◌};
 ghost use Rattle.desk_ports.specs.declared.desk.Inlet.TheVariants as inlet;
 ghost use Rattle.pocket_cmd.specs.declared.status.Refusal.TheVariants as why;
-ghost use Rattle.packet_store.specs.Faults.{stop_by, stop_of};
+ghost use Rattle.packet_store.specs.StoreReader.{stop_by, stop_of};
 ghost use Rattle.flight_chain.specs.Compressing.{stop_by as flight_stop};
-ghost use Rattle.pocket_cmd.specs.Faults.{of_recording, of_store, stop_with};
+ghost use Rattle.pocket_cmd.specs.Courses.{of_recording, of_store, stop_with};
 ghost use Rattle.pocket_cmd.specs.Status.{exit_number, refusal_at, refusal_by, refusal_in, status_by};
 
 use crate::text::TextFault;

@@ -2,9 +2,8 @@
 ghost use Rattle.std.specs.Prelude.{◌≡◌, ◌≢◌, ◌<◌, ◌^◌, ◌↔◌, ℕ, List, Option, length, drop, map, Some, Err};
 ghost use Rattle.std.specs.String.{string_bytes};
 ghost use Rattle.pocket_cmd.specs.Apart.{AreKeptAsMade};
-ghost use Rattle.pocket_cmd.specs.Faults.{DataFault as Fault};
+ghost use Rattle.pocket_cmd.specs.Courses.{DataFault as Fault, bad_row_of};
 ghost use Rattle.pocket_cmd.specs.Command.{Command as Told, HasCommand, IsCommandOf, command_of, names_of};
-ghost use Rattle.pocket_cmd.specs.Courses.{bad_row_of};
 ghost use Rattle.mask_update.specs.Histories.{History};
 ghost use Rattle.side_tables.specs.Grammar.{bad_copy_row};
 ghost use Rattle.ground_chain.specs.Deliveries.{report_text, restored_bytes};

@@ -10,8 +10,7 @@ use Rattle.std.proofs.lemmas.List.{length-drop}
 use Rattle.std.proofs.lemmas.Nat.{or_shifted, ones_cat, mod_low, mod-pow-add, mod_below, pow_pos, shr_high, shr_le}
 use Rattle.std.proofs.lemmas.Nat.Bits.{bit_at_cat_high, bit_at-zero, bit_at-lt, bit_at-trailing_zeros, same_from_bits_below}
 use Rattle.bit_vectors.specs.Vectors.{number_bits}
-use Rattle.bit_vectors.proofs.NumberBits.{length-number_bits, get_or-number_bits}
-use Rattle.bit_vectors.proofs.Numbers.{bit_at_mod, bit_at_shr, number_bits-cat, number_bits-mod}
+use Rattle.bit_vectors.proofs.NumberBits.{length-number_bits, get_or-number_bits, bit_at_mod, bit_at_shr, number_bits-cat, number_bits-mod}
 use Rattle.robust_window.specs.Window.{AreChanges, AreClear, AreMarked, LatestChanges, change_back, changes_of, mark_back, marks_of, new_mask_back, where_marked}
 use Rattle.robust_window.proofs.Ranges.{count_push}
 use Rattle.robust_window.proofs.Standing.{All-pushed, earlier_pushed, latest_pushed, length-pushed}

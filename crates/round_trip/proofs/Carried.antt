@@ -5,20 +5,17 @@ use Rattle.std.specs.Prelude.{◌||◌, ◌&&◌, nat_le, IfSome}
 use Rattle.bit_vectors.specs.declared.flags.Flags.{Flags}
 use Rattle.mask_update.specs.Histories.{History, IsValid, Step, flags_at, forced_flags, input_at, no_steps, step_of}
 use Rattle.mask_update.specs.Masks.{change_at, mask_at}
-use Rattle.mask_update.proofs.HistoriesOf.{IsValid-history_of}
+use Rattle.mask_update.proofs.StepByStep.{IsValid-history_of, mask_at-zero}
 use Rattle.mask_update.proofs.Standing.{step_at-last}
-use Rattle.mask_update.proofs.StepByStep.{mask_at-zero}
 use Rattle.robust_window.specs.Changes.{recent_of}
 use Rattle.robust_window.specs.Histories.{IsLevel, level_at, recent_at}
 use Rattle.robust_window.proofs.OfHistories.{IsLevel-level_at}
-use Rattle.robust_window.proofs.Scanning.{gathered-none}
+use Rattle.robust_window.proofs.Standing.{gathered-none}
 use Rattle.packet_encode.specs.Deliveries.{reaches}
 use Rattle.packet_encode.specs.Encoder.{EncoderState, StandsFor}
-use Rattle.packet_encode.specs.Packets.{form_at, packet_at}
-use Rattle.packet_decode.specs.Decoding.{Decoding}
-use Rattle.packet_decode.specs.Histories.{is_content_told, is_mask_told, true_state}
+use Rattle.packet_encode.specs.Forms.{form_at, packet_at}
+use Rattle.packet_decode.specs.State.{Decoding, is_content_told, is_mask_told, true_state, known_if, no_vectors}
 use Rattle.packet_decode.specs.Spelling.{Spells}
-use Rattle.packet_decode.specs.State.{known_if, no_vectors}
 use Rattle.packet_decode.proofs.OfHistories.{told-spelled}
 use Rattle.round_trip.specs.Carrying.{AreInStep, with_forced_input}
 

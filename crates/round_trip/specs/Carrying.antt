@@ -2,9 +2,8 @@
 use Rattle.std.specs.Prelude.{◌≡◌, ℕ, ◌<◌, Bool, List, length, Option, IfSome}
 use Rattle.mask_update.specs.Histories.{History, IsValid, forced_flags}
 use Rattle.packet_encode.specs.Encoder.{EncoderState, StandsFor}
-use Rattle.packet_encode.specs.Packets.{with_next_input}
-use Rattle.packet_decode.specs.Decoding.{Decoding}
-use Rattle.packet_decode.specs.Histories.{true_state}
+use Rattle.packet_encode.specs.Forms.{with_next_input}
+use Rattle.packet_decode.specs.State.{Decoding, true_state}
 
 -- the history and this input, which is sent with its mask and whole content
 abbrev pub with_forced_input : History → List Bool → History

@@ -6,10 +6,9 @@ ghost use Rattle.bit_vectors.specs.Vectors.{IsPlaces, padded};
 ghost use Rattle.mask_update.specs.Histories.{History};
 ghost use Rattle.mask_update.specs.Masks.{mask_at};
 ghost use Rattle.packet_decode.specs.Answers.{IsExactAnswer};
-ghost use Rattle.packet_decode.specs.Decoding.{IsAfter, tells_nothing};
-ghost use Rattle.packet_decode.specs.State.{both_known};
+ghost use Rattle.packet_decode.specs.State.{IsAfter, tells_nothing, both_known};
 ghost use Rattle.packet_encode.specs.Encoder.{StandsFor};
-ghost use Rattle.packet_encode.specs.Packets.{packet_at};
+ghost use Rattle.packet_encode.specs.Forms.{packet_at};
 ghost use Rattle.robust_window.specs.Histories.{level_at, recent_at};
 ghost use Rattle.round_trip.specs.Carrying.{AreInStep, with_forced_input};
 

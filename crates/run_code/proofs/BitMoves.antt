@@ -9,10 +9,10 @@ use Rattle.std.proofs.lemmas.Nat.{and_le_r, mod-pow-add, pow-add, pow_pos, shr-s
 use Rattle.std.proofs.Math.Nat.{mod-lt, mod-le, zero-div, add-div_right, div-mul-le_self}
 use Rattle.std.proofs.Math.Pow.{pow-lt}
 use Rattle.std.proofs.lemmas.Nat.Bits.{bit_at_and, bit_at_or, bit_at_xor, bit_at_not, bit_at_above, bit_at_ones, bit_at-lt, bit_at-zero, bit_at-pow_same, bit_at-pow_other, same_from_bits, same_from_bits_below}
-use Rattle.bit_vectors.proofs.Numbers.{bit_at_mod, bit_at_shl, bit_at_shl_low, bit_at_shr}
-use Rattle.run_code.specs.Places.{ones_under, zeros_under}
+use Rattle.bit_vectors.proofs.NumberBits.{bit_at_mod, bit_at_shl, bit_at_shl_low, bit_at_shr}
+use Rattle.run_code.specs.Extraction.{ones_under, zeros_under}
 use Rattle.run_code.proofs.EdgeWords.{plus, plus_low, plus_high}
-use Rattle.run_code.proofs.Ranks.{under_zero, under_more, under_le, under_few}
+use Rattle.run_code.proofs.Upward.{under_zero, under_more, under_le, under_few}
 
 -- ---- zeros below a weight
 

@@ -1,21 +1,19 @@
--- The bits of a word at the ones of another, one after another.
-use Rattle.std.proofs.Common.{◌≡◌, ℕ, zero, suc, ◌+◌, ◌-◌, ◌*◌, ◌/◌, ◌%◌, ◌^◌, ◌<◌, ◌≤◌, Bool, true, false, cond, eqb, List, [], ◌∷◌, ◌++◌, length, get_or, bit_and, w64, refl, sym, ap, ◌∙◌, arith, inl, inr}
+-- The bits of a word at the ones of another, one after another, and the ones that are left.
 use Rattle.std.specs.Int.{bit_at, trailing_zeros}
-use Rattle.std.proofs.lemmas.Bool.{cases_eq, cases_lt}
-use Rattle.std.proofs.lemmas.Nat.{pow_pos, mod_below, shr_split, pow-add, and_le_l}
-use Rattle.std.proofs.Math.Nat.{pow-succ', le-mul_of_pos_right, mul-le-mul_right, mod-eq_of_lt}
 use Rattle.std.specs.Int.RustNames.{count_ones}
-use Rattle.bit_vectors.proofs.WordBits.{count_by-number_bits}
-use Rattle.std.proofs.lemmas.Nat.Bits.{shr_and_one, bit_at_and, bit_at_cat_high, bit_at_cat_low, bit_at_ones_above, bit_at-trailing_zeros, same_from_bits, same_from_bits_below, bit_at-zero, bit_at-lt}
+use Rattle.std.proofs.Common.{◌≡◌, ℕ, zero, suc, ◌+◌, ◌-◌, ◌*◌, ◌/◌, ◌%◌, ◌^◌, ◌<◌, ◌≤◌, Bool, true, false, cond, eqb, List, [], ◌∷◌, ◌++◌, length, get_or, bit_and, w64, refl, sym, ap, ◌∙◌, arith, inl, inr, map}
+use Rattle.std.proofs.Math.Nat.{pow-succ', le-mul_of_pos_right, mul-le-mul_right, mod-eq_of_lt}
+use Rattle.std.proofs.lemmas.Bool.{cases_eq, cases_lt}
 use Rattle.std.proofs.lemmas.List.{get_or_past, length-append, take_all}
+use Rattle.std.proofs.lemmas.Nat.{pow_pos, mod_below, shr_split, pow-add, and_le_l}
+use Rattle.std.proofs.lemmas.Nat.Bits.{shr_and_one, bit_at_and, bit_at_cat_high, bit_at_cat_low, bit_at_ones_above, bit_at-trailing_zeros, same_from_bits, same_from_bits_below, bit_at-zero, bit_at-lt}
 use Rattle.bit_vectors.specs.Vectors.{number_bits, bits_number, NoneIsOne}
 use Rattle.bit_vectors.specs.Words.{IsWord}
-use Rattle.bit_vectors.proofs.NumberBits.{length-number_bits, get_or-number_bits, bits_number_below, number_bits-bits_number}
-use Rattle.bit_vectors.proofs.Numbers.{number_bits-cat, bit_at_mod}
-use Rattle.run_code.specs.Places.{places_before, places_down}
-use Rattle.run_code.specs.Extraction.{bits_at, extract}
-use Rattle.run_code.proofs.Ones.{ones_below, below_is, ones_below-one, ones_below-none, places_down_is, length-places_down}
+use Rattle.bit_vectors.proofs.NumberBits.{length-number_bits, get_or-number_bits, bits_number_below, number_bits-bits_number, number_bits-cat, bit_at_mod}
+use Rattle.bit_vectors.proofs.WordBits.{count_by-number_bits}
+use Rattle.run_code.specs.Extraction.{places_before, places_down, bits_at, extract, ones_left}
 use Rattle.run_code.proofs.InverseBits.{length-bits_at}
+use Rattle.run_code.proofs.Ones.{ones_below, below_is, ones_below-one, ones_below-none, places_down_is, length-places_down}
 
 -- ---- a number without its lowest 1
 
@@ -265,3 +263,46 @@ pub fits_word : (held count more : ℕ) → held < 2 ^ count → (held + 1) * 2 
 fits_word held count more small =
     let next : held + 1 ≤ 2 ^ count = omega (arith, small) in
     rw (pow-add 2 count more) (mul-le-mul_right (2 ^ more) next)
+
+-- ---- the ones that are left of a word and of the words before it
+
+by_place : (bit : Bool) (start m : ℕ) (ps qs rest : List ℕ) → rest ≡ map (λ place. start + place) ps ++ qs → cond bit ((start + m) ∷ rest) rest ≡ map (λ place. start + place) (cond bit (m ∷ ps) ps) ++ qs
+by_place true start m ps qs rest later = rw later refl
+by_place false start m ps qs rest later = later
+
+-- the ones below a place that is after another: those between them, and those below the other
+ones_below_joined : (v y : List Bool) (start m : ℕ) → ((k : ℕ) → k < m → get_or y k false ≡ get_or v (start + k) false) → ones_below (start + m) v ≡ map (λ place. start + place) (ones_below m y) ++ ones_below start v
+unfolding ones_below
+ones_below_joined v y start zero same = let none : start + 0 ≡ start = omega arith in rw none refl
+ones_below_joined v y start (suc m) same =
+    let next : start + suc m ≡ suc (start + m) = omega arith in
+    rw (next, same m (omega arith)) (by_place (get_or v (start + m) false) start m (ones_below m y) (ones_below start v) (ones_below (start + m) v) (ones_below_joined v y start m (λ k lt. same k (omega arith))))
+
+-- those of a whole word
+whole_word : (v : List Bool) (index ones : ℕ) → 64 * index ≤ length v → IsWord v index ones → ones_left v (record { index = index; ones = ones }) ≡ ones_below (64 * index + 64) v
+unfolding ones_left
+whole_word v index ones le is =
+    rw (places_of_word ones, below_is (64 * index) v le) (sym (ones_below_joined v (number_bits 64 ones) (64 * index) 64 (λ k lt. bit_is ones k lt ∙ is k lt)))
+
+no_ones_left : (v : List Bool) (index : ℕ) → 64 * index ≤ length v → ones_left v (record { index = index; ones = 0 }) ≡ ones_below (64 * index) v
+unfolding ones_left
+no_ones_left v index le = rw (no_places, below_is (64 * index) v le) refl
+
+-- from the last word on
+pub all_left : (v : List Bool) (index ones : ℕ) → 64 * index ≤ length v → length v ≤ 64 * index + 64 → IsWord v index ones → ones_left v (record { index = index; ones = ones }) ≡ places_down v
+all_left v index ones le all is = whole_word v index ones le is ∙ ones_below-past v (64 * index + 64) all
+
+pub none_left : (v : List Bool) (index ones : ℕ) → ones ≡ 0 → 64 * index ≤ length v → NoneIsOne v 0 (64 * index) → ones_left v (record { index = index; ones = ones }) ≡ []
+none_left v index ones zero_is le none = rw zero_is (no_ones_left v index le ∙ ones_below-none v (64 * index) none)
+
+-- from a word with none left to the greatest word before it that has one
+pub same_left : (v : List Bool) (index ones place word : ℕ) → ones ≡ 0 → 64 * index ≤ length v → place < 64 * index → NoneIsOne v (place + 1) (64 * index) → IsWord v (place / 64) word
+    → ones_left v (record { index = place / 64; ones = word }) ≡ ones_left v (record { index = index; ones = ones })
+same_left v index ones place word zero_is le lt none is =
+    whole_word v (place / 64) word (omega arith) is
+    ∙ sym (rw zero_is (no_ones_left v index le ∙ ones_below-skip v (64 * (place / 64) + 64) (64 * index) (omega arith) (λ k from to. none k (omega arith) to)))
+
+pub next_left : (v : List Bool) (index ones : ℕ) → 0 < ones → ones < 2 ^ 64
+    → ones_left v (record { index = index; ones = ones }) ≡ (64 * index + (63 - trailing_zeros w64 ones)) ∷ ones_left v (record { index = index; ones = bit_and ones (ones - 1) })
+unfolding ones_left
+next_left v index ones some small = rw (places-lowest ones some small) refl

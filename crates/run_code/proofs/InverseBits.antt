@@ -1,19 +1,21 @@
--- Reading a set of ones that is not empty.
-use Rattle.std.proofs.Common.{◌≡◌, ℕ, zero, suc, ◌+◌, ◌-◌, ◌<◌, ◌≤◌, Bool, true, false, cond, List, [], ◌∷◌, ◌++◌, length, get_or, set, take, replicate, Result, Ok, Err, refl, sym, ap, ◌∙◌, arith, ◌⊎◌, inl, inr, append_assoc}
-use Rattle.std.specs.Prelude.{◌↔◌, Contains, count_by, OnOk}
+-- Extracted bits: what they determine, and reading a set of ones that is not empty.
 use Rattle.std.specs.List.{list_any}
+use Rattle.std.specs.List.Sorted.{IsStrictlyIncreasing}
+use Rattle.std.specs.Prelude.{◌↔◌, Contains, count_by, OnOk, not, ◌&&◌}
+use Rattle.std.proofs.Common.{◌≡◌, ℕ, zero, suc, ◌+◌, ◌-◌, ◌<◌, ◌≤◌, Bool, true, false, cond, List, [], ◌∷◌, ◌++◌, length, get_or, set, take, replicate, Result, Ok, Err, refl, sym, ap, ◌∙◌, arith, ◌⊎◌, inl, inr, append_assoc}
 use Rattle.std.proofs.lemmas.Bool.{true≢false, cases_lt}
 use Rattle.std.proofs.lemmas.List.{length-map, length-append, length-replicate, length-drop, length-take, get_or-map, get_or_default, get_or_past, get_or_at, ext_get_or, take_at, nil_from_length, append-nil}
+use Rattle.std.proofs.lemmas.List.Elements.{Contains-get_or}
 use Rattle.std.proofs.lemmas.List.Folds.{list_any_at}
+use Rattle.bit_vectors.specs.Reading.{EyeState, bits_left, Parsed, Read, WrongBit, TooShort, ◌>>=◌, MovesOn, Gives, CanBegin, IsWrongBefore, IsExact}
+use Rattle.bit_vectors.specs.Vectors.{without_bits}
 use Rattle.bit_vectors.specs.declared.fault.BitFault.{BitFault}
 use Rattle.bit_vectors.specs.declared.fault.BitFault.TheVariants.{Wrong, EndsEarly}
-use Rattle.bit_vectors.specs.Eye.{EyeState, bits_left}
-use Rattle.bit_vectors.specs.Reading.{Parsed, Read, WrongBit, TooShort, ◌>>=◌, MovesOn, Gives, CanBegin, IsWrongBefore, IsExact}
-use Rattle.bit_vectors.proofs.EyeReading.{Gives-then_err}
-use Rattle.run_code.specs.Places.{places_up}
-use Rattle.run_code.specs.Extraction.{bits_at, bits_up, IsInverseWord, parse_filled, parse_inverse}
-use Rattle.run_code.proofs.Ones.{one_or_zero, zeros_at, one_within, places_up_apart, in_places_up, places_up_has, length-ones_from}
+use Rattle.bit_vectors.proofs.ExactReading.{Gives-then_err}
+use Rattle.bit_vectors.proofs.Places.{get_or-zip2_all}
+use Rattle.run_code.specs.Extraction.{places_up, bits_at, bits_up, IsInverseWord, parse_filled, parse_inverse, ones_from, places_down, extract, inverse_up, SameOutside}
 use Rattle.run_code.proofs.Filling.{IsFilling, IsExact-filled_at, parse_filled-short, parse_filled-read, parse_filled-no_wrong}
+use Rattle.run_code.proofs.Ones.{one_or_zero, zeros_at, one_within, places_up_apart, in_places_up, places_up_has, length-ones_from, in_ones_from, places_down_has, length-places_down}
 
 -- ---- ones of a list
 
@@ -315,3 +317,47 @@ module _ (x y : List Bool) (some : Contains x true) (old new : EyeState) where
       )
   inverse_wrong moves (Err (EndsEarly bit)) given =
       (λ e. absurd cc, λ zeros. absurd (omega (arith, too_few x (bits_left old) given.0, length-ones_from 0 x, length-take (count_by (λ bit. bit) x) (bits_left old), length-replicate (count_by (λ bit. bit) x) false, ap (λ (bits : List Bool). length bits) zeros)))
+
+-- ---- what extracted bits determine
+
+pub ones_from_rise : (n : ℕ) (bits : List Bool) → IsStrictlyIncreasing (ones_from n bits)
+unfolding ones_from
+ones_from_rise n [] k lt = absurd (omega arith)
+ones_from_rise n (true ∷ bits) zero lt =
+    let first = in_ones_from (n + 1) bits (get_or (ones_from (n + 1) bits) 0 0) (Contains-get_or (ones_from (n + 1) bits) 0 0 (omega arith)) in
+    omega (arith, first.0)
+ones_from_rise n (true ∷ bits) (suc k) lt =
+    let next : suc k + 1 ≡ suc (k + 1) = omega arith in
+    rw next (ones_from_rise (n + 1) bits k (omega arith))
+ones_from_rise n (false ∷ bits) k lt = ones_from_rise (n + 1) bits k lt
+
+pub length-extract : (a b : List Bool) → length (extract a b) ≡ count_by (λ bit. bit) b
+length-extract a b = length-bits_at a (places_down b) ∙ length-places_down b
+
+-- the extracted bit of a 1
+extracted : (a b : List Bool) (k : ℕ) (c : Contains (places_down b) k) → get_or (extract a b) c.0 false ≡ get_or a k false
+extracted a b k c = bit_of a (places_down b) c.0 c.1 ∙ ap (λ (p : ℕ). get_or a p false) (get_or_default (places_down b) c.0 0 k c.1 ∙ c.2)
+
+pub extract_tells : (a b other : List Bool) → length a ≡ length other → extract a b ≡ extract other b → SameOutside b a other → a ≡ other
+extract_tells a b other len same outside =
+    ext_get_or false a other len (λ k lt. elim (one_or_zero (get_or b k false)) [
+      | inl one ↦
+          let c = places_down_has b k one in
+          sym (extracted a b k c) ∙ ap (λ (bits : List Bool). get_or bits c.0 false) same ∙ extracted other b k c
+      | inr none ↦ sym (outside k none)
+    ])
+
+both : (x m : Bool) → x ≡ true → (x && not m) ≡ not m
+both true m e = refl
+both false m e = absurd cc
+
+pub inverse_is : (mask x : List Bool) → length mask ≡ length x → bits_up (without_bits x mask) x ≡ inverse_up mask x
+inverse_is mask x len =
+    ext_get_or false (bits_up (without_bits x mask) x) (inverse_up mask x) (length-bits_at (without_bits x mask) (places_up x) ∙ sym (length-map (bits_up mask x) not ∙ length-bits_at mask (places_up x)))
+    (λ i lt.
+    let within : i < length (places_up x) = omega (arith, length-bits_at (without_bits x mask) (places_up x)) in
+    let one = in_places_up x (get_or (places_up x) i 0) (Contains-get_or (places_up x) i 0 within) in
+    bit_of (without_bits x mask) (places_up x) i within
+    ∙ get_or-zip2_all (λ a b. a && not b) refl x mask (get_or (places_up x) i 0) (sym len)
+    ∙ both (get_or x (get_or (places_up x) i 0) false) (get_or mask (get_or (places_up x) i 0) false) one
+    ∙ sym (get_or-map not (bits_up mask x) i false false (omega (arith, length-bits_at mask (places_up x))) ∙ ap not (bit_of mask (places_up x) i within)))

@@ -5,7 +5,7 @@ use Rattle.std.proofs.lemmas.Bool.{cases_eq, cases_lt, true≢false}
 use Rattle.std.proofs.lemmas.List.{reverse-append, append-nil, length-take, length-reverse, take_more, take_all, get_or_past, get_or-replicate, length-replicate}
 use Rattle.std.proofs.lemmas.List.Sums.{sum_by-cons}
 use Rattle.bit_vectors.specs.Vectors.{NoneIsOne}
-use Rattle.run_code.specs.Places.{ones_from, places_up, places_down}
+use Rattle.run_code.specs.Extraction.{ones_from, places_up, places_down}
 
 -- the places of the ones below a place, the greatest first
 unfoldable pub ones_below : ℕ → List Bool → List ℕ

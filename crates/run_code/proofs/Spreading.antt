@@ -7,16 +7,14 @@ use Rattle.std.proofs.lemmas.Bool.{cases_lt, cases_eq}
 use Rattle.std.proofs.lemmas.List.{ext_get_or, get_or-take, length-take, length-take-le, take-append-le, take-append-drop, map-append, append-nil, length-append}
 use Rattle.std.proofs.lemmas.Nat.{and_le_l, and_le_r, one_shl, ones-le}
 use Rattle.std.proofs.lemmas.Nat.Bits.{bit_at_and, bit_at_or, bit_at_not, bit_at_above, bit_at-lt, bit_at-zero, bit_at-pow_same, bit_at-pow_other, bit_at-trailing_zeros}
-use Rattle.bit_vectors.specs.Eye.{ShowsFirst}
+use Rattle.bit_vectors.specs.Reading.{ShowsFirst}
 use Rattle.bit_vectors.specs.Vectors.{number_bits}
-use Rattle.bit_vectors.proofs.NumberBits.{length-number_bits, number_bits-more}
-use Rattle.bit_vectors.proofs.Numbers.{number_bits-cat, number_bits-mod}
-use Rattle.bit_vectors.proofs.FrontWord.{shl_word}
+use Rattle.bit_vectors.proofs.NumberBits.{length-number_bits, number_bits-more, number_bits-cat, number_bits-mod}
+use Rattle.bit_vectors.proofs.WordBytes.{shl_word}
 use Rattle.run_code.proofs.Gathering.{ones_below-past, word_extract, word_extract-lowest, word_extract-none, length-word_extract, ones-lowest, without_below, lowest_weight, places_of_word, bit_is}
-use Rattle.run_code.specs.Places.{places_down}
+use Rattle.run_code.specs.Extraction.{places_down, bits_at}
 use Rattle.run_code.proofs.Ones.{ones_below}
 use Rattle.run_code.proofs.EdgeWords.{zero_of}
-use Rattle.run_code.specs.Extraction.{bits_at}
 use Rattle.bit_vectors.specs.Words.{IsWord}
 
 -- ---- a word without the ones of another

@@ -3,7 +3,7 @@ use Rattle.std.proofs.Common.{◌≡◌, ℕ, zero, suc, ◌+◌, ◌-◌, ◌*�
 use Rattle.std.specs.Int.{bit_at}
 use Rattle.std.proofs.lemmas.Bool.{cases_lt, cases_eq, eqb-true, eq-eqb, ne_eqb, lt-ltb, le-ltb, ltb-true}
 use Rattle.std.proofs.lemmas.Nat.Bits.{bit_at_and, bit_at_or, bit_at-lt}
-use Rattle.bit_vectors.proofs.Numbers.{bit_at_mod, bit_at_shl, bit_at_shl_low, bit_at_shr}
+use Rattle.bit_vectors.proofs.NumberBits.{bit_at_mod, bit_at_shl, bit_at_shl_low, bit_at_shr}
 
 -- ---- what holds of every weight below a number, by trying each
 

@@ -1,4 +1,2 @@
-pub mod Places
-pub mod Runs
 pub mod Extraction
-pub mod Edges
+pub mod Runs

@@ -1,12 +1,15 @@
--- The word of a vector's runs (CCSDS 124.0-B-1): for each 1, from the highest place down, the count of places from the
--- 1 before it, and then the end of the counts. The first is counted from the number of places.
-use Rattle.std.specs.Prelude.{◌≡◌, ℕ, zero, suc, ◌-◌, ◌⊎◌, Bool, true, false, List, [], ◌∷◌, ◌++◌, length, replicate, slice_set}
+-- Edges of a mask, and the word of a vector's runs (CCSDS 124.0-B-1).
+use Rattle.std.specs.Prelude.{◌≡◌, ℕ, zero, suc, ◌-◌, ◌⊎◌, Bool, true, false, List, [], ◌∷◌, ◌++◌, length, replicate, slice_set, drop}
 use Rattle.bit_vectors.specs.Reading.{Parsed, Read, TooShort, ◌>>=◌}
-use Rattle.count_code.specs.declared.count.Count.{Count}
-use Rattle.count_code.specs.declared.count.Count.TheVariants.{Value, End}
+use Rattle.bit_vectors.specs.Vectors.{xor_bits}
 use Rattle.count_code.specs.Code.{count_bits, end_bits}
 use Rattle.count_code.specs.Counts.{IsBegunBy, IsLeastWithin, parse_count}
-use Rattle.run_code.specs.Places.{places_down}
+use Rattle.count_code.specs.declared.count.Count.{Count}
+use Rattle.count_code.specs.declared.count.Count.TheVariants.{Value, End}
+use Rattle.run_code.specs.Extraction.{places_down}
+
+-- ---- the word of a vector's runs (CCSDS 124.0-B-1): for each 1, from the highest place down, the count of places from the
+-- 1 before it, and then the end of the counts. The first is counted from the number of places
 
 -- the counts from a place down to the first of these, and from each to the next, and the end
 unfoldable pub runs_from : ℕ → List ℕ → List Bool
@@ -68,3 +71,9 @@ parse_ones (suc most) below v bits =
 -- a vector with the given number of places
 unfoldable pub parse_vector : ℕ → List Bool → Parsed (List Bool)
 parse_vector f bits = parse_ones (suc f) f (replicate f false) bits
+
+-- ---- the edges of a mask: the places at which it differs from the next place (CCSDS 124.0-B-1)
+
+-- each bit and the next one; a zero follows the last
+abbrev pub edges : List Bool → List Bool
+edges mask = xor_bits mask (drop 1 mask ++ false ∷ [])

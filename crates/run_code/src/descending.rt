@@ -3,7 +3,7 @@
 
 ghost use Rattle.std.specs.Prelude.{◌≡◌, ◌*◌, ◌^◌, ◌<◌, ◌≤◌, [], length, IfSome, IfNone};
 ghost use Rattle.std.specs.Iterator.{YieldsFirst, item_count};
-ghost use Rattle.run_code.specs.Places.{places_down, ones_left, AreWithin};
+ghost use Rattle.run_code.specs.Extraction.{places_down, ones_left, AreWithin};
 
 use bit_vectors::Bits;
 use std::marker::Model;
@@ -24,7 +24,7 @@ pub struct OnesDown<'a> {
 
 impl<'a> Model for OnesDown<'a> {
     ghost use Rattle.std.specs.Prelude.{List, ℕ, ◌*◌, ◌^◌, ◌<◌, ◌≤◌, length};
-    ghost use Rattle.run_code.specs.Places.{ones_left, AreWithin};
+    ghost use Rattle.run_code.specs.Extraction.{ones_left, AreWithin};
 
     ghost Value = { List ℕ };
 

@@ -1,7 +1,7 @@
 //! The edges of masks (CCSDS 124.0-B-1).
 
 ghost use Rattle.std.specs.Prelude.{◌≡◌, ◌*◌, ◌%◌, ◌^◌, ◌<◌, bit_xor, length};
-ghost use Rattle.run_code.specs.Edges.{edges, edges as edges_of};
+ghost use Rattle.run_code.specs.Runs.{edges, edges as edges_of};
 
 use bit_vectors::Bits;
 

@@ -2,12 +2,10 @@
 //! how the bits of each word with many ones move, so that a vector that stays costs no new moves.
 
 ghost use Rattle.std.specs.Prelude.{◌≡◌, ◌+◌, ◌-◌, ◌^◌, ◌<◌, ◌≤◌, ◌↔◌, ◌++◌, length, count_by, IsErr, IfErr, OnOk, OnErr};
-ghost use Rattle.bit_vectors.specs.Eye.{bits_left};
+ghost use Rattle.bit_vectors.specs.Reading.{bits_left, MovesOn, Gives};
 ghost use Rattle.bit_vectors.specs.Vectors.{number_bits};
 ghost use Rattle.bit_vectors.specs.Words.{word_count};
-ghost use Rattle.bit_vectors.specs.Reading.{MovesOn, Gives};
-ghost use Rattle.run_code.specs.Places.{places_before, places_down};
-ghost use Rattle.run_code.specs.Extraction.{bits_at, extract, SameOutside, parse_filled};
+ghost use Rattle.run_code.specs.Extraction.{places_before, places_down, bits_at, extract, SameOutside, parse_filled};
 
 use crate::moves::WordMoves;
 use crate::words::{MANY, gathered, moved, spread};

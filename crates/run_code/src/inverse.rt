@@ -1,11 +1,9 @@
 //! The inverted bits of a mask at the ones of a vector, from the lowest place up (CCSDS 124.0-B-1).
 
 ghost use Rattle.std.specs.Prelude.{◌≡◌, ℕ, ◌+◌, ◌-◌, ◌<◌, ◌≤◌, ◌↔◌, ◌++◌, true, false, Bool, List, length, take, replicate, count_by, Contains, Err, IfErr, OnOk};
-ghost use Rattle.bit_vectors.specs.Eye.{bits_left};
+ghost use Rattle.bit_vectors.specs.Reading.{bits_left, MovesOn, Gives, IsFirstFault};
 ghost use Rattle.bit_vectors.specs.Vectors.{IsOne};
-ghost use Rattle.bit_vectors.specs.Reading.{MovesOn, Gives, IsFirstFault};
-ghost use Rattle.run_code.specs.Places.{places_up};
-ghost use Rattle.run_code.specs.Extraction.{inverse_up, bits_up, IsInverseWord, parse_filled, parse_inverse};
+ghost use Rattle.run_code.specs.Extraction.{places_up, inverse_up, bits_up, IsInverseWord, parse_filled, parse_inverse};
 
 use crate::words::{put_gathered_up, spread_up};
 use bit_vectors::{BitEye, BitFault, BitPen, Bits};

@@ -6,10 +6,8 @@ ghost use Rattle.bit_vectors.specs.Reading.{CanBegin, IsExact};
 ghost use Rattle.bit_vectors.specs.Vectors.{IsOne, without_bits};
 ghost use Rattle.count_code.specs.Code.{count_bits, end_bits};
 ghost use Rattle.count_code.specs.Counts.{IsBegunBy, IsCount, IsLeastWithin};
-ghost use Rattle.run_code.specs.Places.{places_up};
-ghost use Rattle.run_code.specs.Runs.{IsRunFront, IsRunWord, IsRunWordOf, counts_of, lowest_of, parse_vector, run_bits};
-ghost use Rattle.run_code.specs.Extraction.{IsInverseWord, SameOutside, bits_up, extract, inverse_up, parse_inverse};
-ghost use Rattle.run_code.specs.Edges.{edges};
+ghost use Rattle.run_code.specs.Extraction.{places_up, IsInverseWord, SameOutside, bits_up, extract, inverse_up, parse_inverse};
+ghost use Rattle.run_code.specs.Runs.{IsRunFront, IsRunWord, IsRunWordOf, counts_of, lowest_of, parse_vector, run_bits, edges};
 
 use count_code::Count;
 

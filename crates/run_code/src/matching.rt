@@ -1,8 +1,7 @@
 //! Bits against the run-length word of a known vector (CCSDS 124.0-B-1).
 
 ghost use Rattle.std.specs.Prelude.{◌≡◌, ◌++◌, List, Bool, IsOk, IfErr, OnOk};
-ghost use Rattle.bit_vectors.specs.Eye.{bits_left};
-ghost use Rattle.bit_vectors.specs.Reading.{MovesOn, Gives, IsFirstFault, parse_word};
+ghost use Rattle.bit_vectors.specs.Reading.{bits_left, MovesOn, Gives, IsFirstFault, parse_word};
 ghost use Rattle.run_code.specs.Runs.{run_bits};
 
 use crate::descending::ones_down;

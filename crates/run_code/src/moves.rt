@@ -8,7 +8,7 @@ ghost use Rattle.std.specs.Int.Bits.{bit_and, bit_or, bit_xor};
 ghost use Rattle.std.specs.Int.RustNames.{count_ones};
 ghost use Rattle.std.specs.Vec.{vec_capacity};
 ghost use Rattle.bit_vectors.specs.Words.{word_count};
-ghost use Rattle.run_code.specs.Places.{AreZeroCounts, ones_under};
+ghost use Rattle.run_code.specs.Extraction.{AreZeroCounts, ones_under};
 
 use crate::edge::summed;
 use bit_vectors::NoMemory;
@@ -25,7 +25,7 @@ pub struct WordMoves {
 
 impl Model for WordMoves {
     ghost use Rattle.std.specs.Prelude.{ℕ};
-    ghost use Rattle.run_code.specs.Places.{AreZeroCounts};
+    ghost use Rattle.run_code.specs.Extraction.{AreZeroCounts};
 
     ghost Value = { ℕ };
 

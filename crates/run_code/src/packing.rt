@@ -4,7 +4,7 @@
 ghost use Rattle.std.specs.Prelude.{◌≡◌, ℕ, ◌^◌, ◌<◌, length};
 ghost use Rattle.std.specs.Int.{bit_at};
 ghost use Rattle.std.specs.Int.RustNames.{count_ones};
-ghost use Rattle.run_code.specs.Places.{ones_under};
+ghost use Rattle.run_code.specs.Extraction.{ones_under};
 
 use crate::moves::{WordMoves, word_moves};
 

@@ -1,8 +1,7 @@
 //! The run-length words of vectors (CCSDS 124.0-B-1).
 
 ghost use Rattle.std.specs.Prelude.{◌≡◌, ◌+◌, ◌*◌, ◌≤◌, ◌++◌, Bool, List, length, IsOk, IfErr, OnOk};
-ghost use Rattle.bit_vectors.specs.Eye.{bits_left};
-ghost use Rattle.bit_vectors.specs.Reading.{MovesOn, Gives, IsFirstFault};
+ghost use Rattle.bit_vectors.specs.Reading.{bits_left, MovesOn, Gives, IsFirstFault};
 ghost use Rattle.run_code.specs.Runs.{run_bits, IsRunWord, parse_vector};
 
 use crate::descending::ones_down;

@@ -1,10 +1,4 @@
-pub mod Places
-pub mod Records
 pub mod RowTexts
-pub mod Numbers
 pub mod RowKinds
-pub mod RowBounds
 pub mod StreamRows
 pub mod Claimed
-pub mod LastRows
-pub mod ClaimLists

@@ -14,7 +14,7 @@ use Rattle.side_tables.specs.Grammar.{◌>>=◌}
 use Rattle.side_tables.specs.Numbers.{is_plain_decimal, number_of}
 use Rattle.side_tables.specs.Streams.{AreIndexesOf, AreStreams, IsStreamRow, has_apid, no_stream, stream_at, stream_of, stream_row_of, stream_row_after}
 use Rattle.side_tables.specs.Texts.{rows_from}
-use Rattle.side_tables.proofs.RowBounds.{bind_within, test_within}
+use Rattle.side_tables.proofs.RowKinds.{bind_within, test_within}
 
 -- ---- what a row says
 

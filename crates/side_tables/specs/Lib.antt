@@ -1,4 +1,3 @@
-pub mod Spans
 pub mod Rows
 pub mod Ranks
 pub mod Columns

@@ -8,8 +8,7 @@ use Rattle.side_tables.specs.declared.ranks.Cell.{Cell}
 use Rattle.side_tables.specs.declared.ranks.RankRun.{RankRun}
 use Rattle.side_tables.specs.declared.rows.FlagRow.{FlagRow}
 use Rattle.side_tables.specs.declared.span.Span.{Span}
-use Rattle.side_tables.specs.Rows.{flag_span}
-use Rattle.side_tables.specs.Spans.{IsSpan, names}
+use Rattle.side_tables.specs.Rows.{flag_span, IsSpan, names}
 
 -- whether the flag is set
 abbrev pub flag_in : Flag → Flags → Bool

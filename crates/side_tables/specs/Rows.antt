@@ -1,15 +1,27 @@
--- What rows say about a packet number.
-use Rattle.std.specs.Prelude.{◌≡◌, ℕ, ◌<◌, ◌≤◌, Bool, false, ◌&&◌, List, find, reverse, Option, Some, None}
+-- What rows say about a packet number, also in steps.
 use Rattle.std.specs.List.{filter_map, list_any}
 use Rattle.std.specs.Option.{option_map, option_map_or}
+use Rattle.std.specs.Prelude.{ℕ, ◌-◌, ◌%◌, ◌≤◌, ◌==◌, nat_le, Bool, ◌&&◌, ◌≡◌, ◌<◌, false, List, find, reverse, Option, Some, None}
 use Rattle.bit_vectors.specs.declared.flags.Flags.{Flags}
+use Rattle.side_tables.specs.declared.rows.CopyRow.{CopyRow}
 use Rattle.side_tables.specs.declared.rows.FlagRow.{FlagRow}
 use Rattle.side_tables.specs.declared.rows.RobustRow.{RobustRow}
 use Rattle.side_tables.specs.declared.rows.ScheduleRow.{ScheduleRow}
 use Rattle.side_tables.specs.declared.rows.ScheduleRow.TheVariants as row
-use Rattle.side_tables.specs.declared.rows.CopyRow.{CopyRow}
 use Rattle.side_tables.specs.declared.span.Span.{Span}
-use Rattle.side_tables.specs.Spans.{names, IsSpan}
+
+-- ---- packet numbers in steps
+
+-- whether the number is from the first to the last, and a whole number of steps after the first
+abbrev pub names : Span → ℕ → Bool
+names span t = nat_le span.first t && nat_le t span.last && ((t - span.first) % span.step == 0)
+
+-- a span from a first number to a last one that is not smaller, in steps of one or more
+pub record IsSpan (span : Span) : Type 0 where
+  pub forward : span.first ≤ span.last
+  pub step : 1 ≤ span.step
+
+-- ---- what rows say about a packet number
 
 abbrev pub flag_span : FlagRow → Span
 flag_span row = record { first = row.first; last = row.last; step = row.step }

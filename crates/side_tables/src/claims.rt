@@ -1,7 +1,7 @@
 //! What rows claim of the numbers that they name.
 
 ghost use Rattle.std.specs.Prelude.{◌≡◌, ◌+◌, ℕ, All, false, IfOk, IfNone, IfSome};
-ghost use Rattle.side_tables.specs.Spans.{IsSpan, names};
+ghost use Rattle.side_tables.specs.Rows.{IsSpan, names};
 ghost use Rattle.side_tables.specs.Ranks.{AreClaims, flag_claim, flag_in, row_claim};
 
 use crate::rows::TableRow;

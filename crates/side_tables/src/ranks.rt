@@ -1,7 +1,7 @@
 //! The greatest rank that is claimed of each number.
 
 ghost use Rattle.std.specs.Prelude.{◌≡◌, ℕ, ◌+◌, ◌<◌, ◌≤◌, true, All, IfOk, length};
-ghost use Rattle.side_tables.specs.Spans.{IsSpan, names};
+ghost use Rattle.side_tables.specs.Rows.{IsSpan, names};
 ghost use Rattle.side_tables.specs.Ranks.{AreCells, AreRanks, HasRankAtLeast, IsBlock, IsDue, IsRank, IsRunOf, RunHolds, Serves, TakesRank};
 
 use crate::claims::Claim;

@@ -4,7 +4,7 @@ ghost use Rattle.std.specs.Prelude.{◌≡◌, ℕ, List, Option, All, IfOk};
 ghost use Rattle.std.specs.Result.{result_ok};
 ghost use Rattle.csv.specs.Records.{fields_of};
 ghost use Rattle.side_tables.specs.declared.span.Span.{Span as Numbers};
-ghost use Rattle.side_tables.specs.Spans.{IsSpan};
+ghost use Rattle.side_tables.specs.Rows.{IsSpan};
 
 use crate::fault::RowFault;
 use crate::span::Span;

@@ -1,7 +1,7 @@
 //! Packet numbers in steps.
 
 ghost use Rattle.std.specs.Prelude.{◌≡◌, ℕ, ◌<◌, ◌≤◌, true, false, IfNone, IfSome};
-ghost use Rattle.side_tables.specs.Spans.{names};
+ghost use Rattle.side_tables.specs.Rows.{names};
 
 /// Each `step`-th number from `first` to `last`.
 #[derive(Clone, Copy, Debug, PartialEq, Eq)]

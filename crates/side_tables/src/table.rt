@@ -1,8 +1,7 @@
 //! Tables: rows that name packets by their numbers.
 
 ghost use Rattle.std.specs.Prelude.{◌≡◌, ℕ, ◌<◌, ◌≤◌, false, All, IfOk, IfSome};
-ghost use Rattle.side_tables.specs.Rows.{last_row};
-ghost use Rattle.side_tables.specs.Spans.{names};
+ghost use Rattle.side_tables.specs.Rows.{last_row, names};
 
 use crate::rows::TableRow;
 use bit_vectors::NoMemory;

@@ -1,25 +1,123 @@
--- What a trial's desk holds after each of its runs.
-use Rattle.std.proofs.Common.{◌≡◌, ℕ, ◌<◌, Bool, true, false, cond, List, [], Option, Some, IsSome, unwrap_or, arith, refl, sym, ap, ◌∙◌, subst}
-use Rattle.std.specs.Prelude.{Contains, slice_index_or}
+-- What the desk of a trial holds after each of its runs, and keeps through their calls.
 use Rattle.std.specs.Cmp.Lexicographic.{bytes_decides, slice_cmp}
-use Rattle.std.specs.Ordering.{nat_cmp}
 use Rattle.std.specs.FinMap as map
+use Rattle.std.specs.Io.KnownBytes.{append_known}
+use Rattle.std.specs.Option.{option_map}
+use Rattle.std.specs.Ordering.{nat_cmp}
+use Rattle.std.specs.Prelude.{Contains, slice_index_or}
 use Rattle.std.specs.Str.{bytes_eq}
+use Rattle.std.proofs.Common.{◌≡◌, ℕ, true, List, [], Option, Some, None, Result, Ok, Err, IfOk, OnOk, unwrap_or, sym, ap, subst, ◌∙◌, IsSome, IfSome, OnErr, ◌<◌, Bool, false, cond, arith, refl}
 use Rattle.std.proofs.Math.Path.{fun_ext}
 use Rattle.std.proofs.lemmas.Bool.{true≢false}
 use Rattle.std.proofs.lemmas.Cmp.{nat_list_cmp_total, nat_list_eq_equiv}
 use Rattle.std.proofs.lemmas.Map.Text.{is_eq-slice_cmp}
-use Rattle.desk_ports.specs.Courses.{owed, texts_of}
-use Rattle.desk_ports.specs.Meanings.{Kept, kept_at}
-use Rattle.desk_ports.proofs.Held.{kept_here}
-use Rattle.side_tables.specs.declared.rows.CopyRow.{CopyRow}
+use Rattle.desk_ports.specs.Courses.{Course, Ends, owed, texts_of}
+use Rattle.desk_ports.specs.Meanings.{Meanings, Kept, Keeps, kept_after, kept_at, left, made, Begins, Opens, outgoing, with_outgoing}
+use Rattle.desk_ports.specs.MemState.{MemState, IsCalled, NothingFails, mem_meanings}
+use Rattle.desk_ports.specs.declared.calls.Call.TheVariants as call
+use Rattle.desk_ports.specs.declared.desk.Inlet.TheVariants as inlet
+use Rattle.desk_ports.specs.declared.desk.Outlet.{Outlet}
+use Rattle.desk_ports.specs.declared.desk.Outlet.TheVariants as outlet
+use Rattle.desk_ports.proofs.Courses.{Ends-told}
+use Rattle.desk_ports.proofs.Desks.{IsSome-insert, kept_here}
 use Rattle.side_tables.specs.Rows.{copies_of}
+use Rattle.side_tables.specs.declared.rows.CopyRow.{CopyRow}
 use Rattle.flight_chain.specs.Compressing.{Compression, compress_course}
 use Rattle.loss_player.specs.Playing.{PlayerState, play_course}
 use Rattle.ground_chain.specs.Restoring.{RestorerState, restore_course}
-use Rattle.trial_chain.specs.Stages.{HoldsTrial, held_played, held_recording, held_restored, held_store, play_name, played_name, played_outputs, recording_name, report_name, restored_name, restored_outputs, store_name, trial_names, trial_played, trial_store, with_outputs}
+use Rattle.trial_chain.specs.Stages.{HoldsJust, RunState, run_meanings, run_opened, run_reported, with_outputs, IsRunDesk, HoldsTrial, held_played, held_recording, held_restored, held_store, play_name, played_name, played_outputs, recording_name, report_name, restored_name, restored_outputs, store_name, trial_names, trial_played, trial_store}
 use Rattle.trial_chain.specs.Trials.{IsTrial, trial_copies, trial_recording}
-use Rattle.trial_chain.proofs.TrialRuns.{owed-recording, owed-restored, owed-store, trial_flight}
+use Rattle.trial_chain.proofs.TrialHistories.{owed-recording, owed-restored, owed-store, trial_flight}
+
+-- ---- what is held after a run whose outputs are finished
+
+held_by : (a b : Kept) → ◌≡◌ {A = Option Kept} (Some a) (Some b) → a ≡ b
+held_by a b e = cc
+
+-- the desk of a run holds what the desk before it held
+pub held_reported : (desk : MemState) (input output report : List ℕ) (run : RunState) → run_meanings run ≡ run_reported desk input output report → run.desk.held ≡ desk.held
+held_reported desk input output report run opened = held_by _ _ (ap (λ (m : Meanings). m.held) opened)
+
+-- so it is opened over itself
+pub run_opened-own : (desk : MemState) (input output : List ℕ) (run : RunState) → run_meanings run ≡ run_opened desk input output → run_meanings run ≡ run_opened run.desk input output
+run_opened-own desk input output run opened =
+    opened ∙ sym (ap (λ (m : Meanings). record m { input = record { left = Some (kept_at (unwrap_or m.held map.empty) input); ready = true }; output = record { made = Some []; name = Some output; ready = true }; grants_in = λ name. bytes_eq name input }) opened)
+
+pub run_reported-own : (desk : MemState) (input output report : List ℕ) (run : RunState) → run_meanings run ≡ run_reported desk input output report → run_meanings run ≡ run_reported run.desk input output report
+run_reported-own desk input output report run opened =
+    opened
+    ∙ sym (ap (λ (m : Meanings). record m {
+      input = record { left = Some (kept_at (unwrap_or m.held map.empty) input); ready = true };
+      output = record { made = Some []; name = Some output; ready = true };
+      report = record { made = Some []; name = Some report; ready = true };
+      grants_in = λ name. bytes_eq name input;
+    }) opened)
+
+-- the output, and so what it made
+kept_main : {F : Type 0} (desk : MemState) (input output : List ℕ) (course : List ℕ → Course F) (b c d : Meanings) → left b inlet.Main ≡ Some (kept_at desk.held input) → b.output ≡ record { made = Some []; name = Some output; ready = true }
+    → b.held ≡ Some desk.held → Ends course b c None → Keeps c d outlet.Main → d.held ≡ Some (map.insert desk.held output (texts_of (owed (course (kept_at desk.held input)))).output)
+kept_main desk input output course b c d told empty held ends keeps =
+    let others = ends.went.ran.others in
+    let bytes = (texts_of (owed (course (kept_at desk.held input)))).output in
+    let written : made c outlet.Main ≡ Some bytes = (Ends-told course b c None (kept_at desk.held input) told ends).0 ∙ ap (λ o. append_known o.made bytes) empty in
+    let name : c.output.name ≡ Some output = ap (λ (m : Meanings). m.output.name) others ∙ ap (λ o. o.name) empty in
+    let same : c.held ≡ Some desk.held = ap (λ (m : Meanings). m.held) others ∙ held in
+    ap (λ (m : Meanings). m.held) keeps ∙ λ i. kept_after (same i) (name i) (written i)
+
+pub kept_output : {F : Type 0} (desk : MemState) (after : Kept) (input output : List ℕ) (course : List ℕ → Course F) (b c d : Meanings) → b ≡ run_opened desk input output → Ends course b c None → Keeps c d outlet.Main
+    → d.held ≡ Some after → after ≡ map.insert desk.held output (texts_of (owed (course (kept_at desk.held input)))).output
+kept_output desk after input output course b c d opened ends keeps is =
+    held_by _ _ (sym is ∙ kept_main desk input output course b c d (ap (λ (m : Meanings). m.input.left) opened) (ap (λ (m : Meanings). m.output) opened) (ap (λ (m : Meanings). m.held) opened) ends keeps)
+
+-- and the report
+pub kept_outputs : {F : Type 0} (desk : MemState) (after : Kept) (input output report : List ℕ) (course : List ℕ → Course F) (b c d e : Meanings) → b ≡ run_reported desk input output report → Ends course b c None
+    → Keeps c d outlet.Main → Keeps d e outlet.Report → e.held ≡ Some after → after ≡ with_outputs desk.held output report (texts_of (owed (course (kept_at desk.held input))))
+kept_outputs desk after input output report course b c d e opened ends main noted is =
+    let others = ends.went.ran.others in
+    let told = ap (λ (m : Meanings). m.input.left) opened in
+    let all = texts_of (owed (course (kept_at desk.held input))) in
+    let held = kept_main desk input output course b c d told (ap (λ (m : Meanings). m.output) opened) (ap (λ (m : Meanings). m.held) opened) ends main in
+    let written : made d outlet.Report ≡ Some all.report =
+    ap (λ (m : Meanings). m.report.made) main ∙ ((Ends-told course b c None (kept_at desk.held input) told ends).1 ∙ ap (λ (m : Meanings). append_known m.report.made all.report) opened) in
+    let name : d.report.name ≡ Some report = ap (λ (m : Meanings). m.report.name) main ∙ (ap (λ (m : Meanings). m.report.name) others ∙ ap (λ (m : Meanings). m.report.name) opened) in
+    held_by _ _ (sym is ∙ (ap (λ (m : Meanings). m.held) noted ∙ λ i. kept_after (held i) (name i) (written i)))
+
+-- what is held after a run that answered
+pub held_ended : {A E F : Type 0} (r : Result (MemState × A) E) (answer : Result A F) (left now : Kept) → IfOk r (λ after. HoldsJust after.0 left) → IfOk r (λ after. answer ≡ Ok after.1) → OnOk answer (left ≡ now) → IfOk r (λ after. HoldsJust after.0 now)
+held_ended (Ok after) answer left now just is so = (just.0, just.1 ∙ subst (λ a. OnOk a (left ≡ now)) is so)
+held_ended (Err fault) answer left now just is so = tt
+
+-- what is known of its answer
+pub answer_ended : {A E F : Type 0} (r : Result (MemState × A) E) (answer : Result A F) (P : A → Type 0) → IfOk r (λ after. answer ≡ Ok after.1) → IfOk answer P → IfOk r (λ after. P after.1)
+answer_ended (Ok after) answer P is so = subst (λ a. IfOk a P) is so
+answer_ended (Err fault) answer P is so = tt
+
+-- ---- what a desk for one run keeps through its calls
+
+-- finishing an output
+pub IsRunDesk-finish : {E : Type 0} (old new : MemState) (input : List ℕ) (o : Outlet) (r : Result (Unit {0}) E) → OnOk r (Keeps (mem_meanings old) (mem_meanings new) o) → OnErr r (mem_meanings new ≡ mem_meanings old)
+    → IsCalled old new call.Finish → IsRunDesk old input → IsRunDesk new input
+IsRunDesk-finish {E = E} old new input o r keeps same called was =
+    record { nothing = subst NothingFails (sym called.numbered) (record { open_in = was.nothing.open_in; open_out = was.nothing.open_out; read = was.nothing.read; write = was.nothing.write; finish = was.nothing.finish }); held = kept r o keeps same }
+  where
+    IsHeld : Option Kept → Type 0
+    IsHeld held = IfSome held (λ kept. IsSome (map.get kept input))
+
+    kept : (r : Result (Unit {0}) E) (o : Outlet) → OnOk r (Keeps (mem_meanings old) (mem_meanings new) o) → OnErr r (mem_meanings new ≡ mem_meanings old) → IsSome (map.get new.held input)
+    kept (Ok done) outlet.Main keeps same = subst IsHeld (sym (ap (λ m. m.held) keeps)) (IsSome-insert old.held old.output.name old.output.made input was.held)
+    kept (Ok done) outlet.Report keeps same = subst IsHeld (sym (ap (λ m. m.held) keeps)) (IsSome-insert old.held old.report.name old.report.made input was.held)
+    kept (Err failed) o keeps same = subst IsHeld (sym (ap (λ m. m.held) same)) was.held
+
+-- the input and the output of a run are opened
+pub run_opened-is : (desk : MemState) (input output : List ℕ) (b c : Meanings) → Opens (run_meanings (record { desk = desk; input = input })) b inlet.Main input → Begins b c outlet.Main output
+    → c ≡ run_opened desk input output
+run_opened-is desk input output b c opens begins =
+    let at : Meanings = run_meanings (record { desk = desk; input = input }) in
+    begins
+    ∙ (ap (λ (m : Meanings). with_outgoing m outlet.Main (record { made = option_map (λ _. []) (made m outlet.Main); name = option_map (λ _. output) (outgoing m outlet.Main).name; ready = true })) opens.others
+    ∙ ap (λ bytes. record at { input = record { left = Some bytes; ready = true }; output = record { made = Some []; name = Some output; ready = true } }) opens.kept)
+
+-- ---- what a trial's desk holds after each of its runs
 
 get_insert : (kept : Kept) (name bytes sought : List ℕ) → map.get (map.insert kept name bytes) sought ≡ cond (bytes_eq sought name) (Some bytes) (map.get kept sought)
 get_insert kept name bytes sought = map.get-insert nat_list_cmp_total kept name bytes sought ∙ ap (λ same. cond same (Some bytes) (map.get kept sought)) (is_eq-slice_cmp sought name)

@@ -1,20 +1,114 @@
--- The history of a trial and its copies: what the laws of the three chains ask of them.
-use Rattle.std.proofs.Common.{◌≡◌, ℕ, zero, suc, ◌+◌, ◌*◌, ◌%◌, ◌==◌, ◌<◌, ◌≤◌, ◌-◌, ◌/◌, Bool, true, false, ◌&&◌, ◌||◌, cond, List, [], ◌∷◌, length, map, replicate, refl, ap, ◌∙◌, arith}
-use Rattle.std.specs.Prelude.{All}
+-- The history of a trial, its recording, script and copies, and what its three runs owe.
 use Rattle.std.specs.List.{enumerate_from, flat_map, range_with_len}
+use Rattle.std.specs.Option.{option_map_or}
+use Rattle.std.specs.Prelude.{All}
+use Rattle.std.proofs.Common.{◌≡◌, ℕ, ◌+◌, Bool, List, [], ◌∷◌, ◌++◌, sym, ap, ◌∙◌, append-nil, append_assoc, arith, ◌≢◌, zero, suc, true, false, cond, find, reverse, Option, Some, refl, inl, inr, ◌*◌, ◌%◌, ◌==◌, ◌<◌, ◌≤◌, ◌-◌, ◌/◌, ◌&&◌, ◌||◌, length, map, replicate, None}
+use Rattle.std.proofs.lemmas.Bool.{cases_eq, eq-eqb, ne_eqb}
 use Rattle.std.proofs.lemmas.Grind.{common_steps}
-use Rattle.std.proofs.lemmas.List.{length-append, length-replicate, length-set}
+use Rattle.std.proofs.lemmas.List.{reverse-append, length-append, length-replicate, length-set}
 use Rattle.std.proofs.lemmas.List.Concat.{flat_map-cons}
-use Rattle.std.proofs.lemmas.List.FromFn.{length-map-range_with_len, get_or-map-range_with_len}
+use Rattle.std.proofs.lemmas.List.FromFn.{map-range_with_len_more, length-map-range_with_len, get_or-map-range_with_len}
+use Rattle.bit_vectors.specs.Vectors.{vector_bytes}
 use Rattle.bit_vectors.specs.declared.flags.Flags.{Flags}
-use Rattle.mask_update.specs.Histories.{IsValid, flags_after, history_of, step_of}
-use Rattle.mask_update.proofs.HistoriesOf.{IsValid-history_of, length-history_of}
-use Rattle.side_tables.specs.Rows.{flags_of}
-use Rattle.side_tables.specs.Spans.{names}
+use Rattle.desk_ports.specs.Courses.{by_ending, bytes_for, owed, texts_of, to_output, to_report}
+use Rattle.desk_ports.specs.declared.desk.Outlet.TheVariants as outlet
+use Rattle.desk_ports.proofs.Courses.{bytes_for-first, bytes_for-last, bytes_for-own}
+use Rattle.mask_update.specs.Histories.{IsValid, flags_after, history_of, step_of, History}
+use Rattle.mask_update.proofs.StepByStep.{IsValid-history_of, length-history_of}
+use Rattle.side_tables.specs.Rows.{copies_of, copy_span, names, flags_of}
+use Rattle.side_tables.specs.declared.rows.CopyRow.{CopyRow}
+use Rattle.packet_store.specs.Walks.{Walk, walk}
 use Rattle.packet_encode.specs.Deliveries.{arrivals}
-use Rattle.loss_player.specs.Gaps.{AreGapsShort}
-use Rattle.trial_chain.specs.Draws.{input_draw}
-use Rattle.trial_chain.specs.Trials.{next_input, inverted_at, is_every, trial_copies, trial_flags, trial_history, trial_input, trial_inputs, trial_plan}
+use Rattle.flight_chain.specs.Compressing.{Compression, compress_course, history_by, store_of}
+use Rattle.flight_chain.specs.Recordings.{recording_of, RecordingWalk, recording_walk}
+use Rattle.flight_chain.proofs.Recordings.{recording_walk_from-recording_of}
+use Rattle.loss_player.specs.Played.{AreGapsShort, played_bytes, played_of, store_numbers}
+use Rattle.loss_player.specs.Playing.{play_course}
+use Rattle.loss_player.specs.Report.{play_report}
+use Rattle.ground_chain.specs.Deliveries.{delivered_numbers, report_text, restored_bytes}
+use Rattle.ground_chain.specs.Report.{restored_of}
+use Rattle.ground_chain.specs.Restoring.{restore_course, store_run}
+use Rattle.ground_chain.proofs.DeliveredRuns.{count-chosen, walk-played, whole-store_of, numbers-played, owed-played}
+use Rattle.trial_chain.specs.Draws.{copies_draw, input_draw}
+use Rattle.trial_chain.specs.Stages.{trial_played}
+use Rattle.trial_chain.specs.Trials.{trial_input, trial_inputs, copies_by, row_of_one, rows_for, trial_copies, next_input, inverted_at, is_every, trial_flags, trial_history, trial_plan, IsTrial, trial_recording}
+
+-- ---- the recording of a trial, packet by packet
+
+recording-push : (inputs : List (List Bool)) (input : List Bool) → recording_of (inputs ++ input ∷ []) ≡ recording_of inputs ++ vector_bytes input
+recording-push [] input = append-nil (vector_bytes input)
+recording-push (first ∷ inputs) input = ap (λ bytes. vector_bytes first ++ bytes) (recording-push inputs input) ∙ sym (append_assoc (vector_bytes first) (recording_of inputs) (vector_bytes input))
+
+-- one more packet
+pub recording-more : (seed f t : ℕ) → recording_of (trial_inputs seed (t + 1) f) ≡ recording_of (trial_inputs seed t f) ++ vector_bytes (trial_input seed f t)
+recording-more seed f t = ap recording_of (map-range_with_len_more (trial_input seed f) 0 t t (omega arith)) ∙ recording-push (trial_inputs seed t f) (trial_input seed f t)
+
+-- ---- the rows of a trial's script, packet by packet
+
+copies_of-push : (rows : List CopyRow) (row : CopyRow) (s : ℕ) → copies_of (rows ++ row ∷ []) s ≡ cond (names (copy_span row) s) row.copies (copies_of rows s)
+copies_of-push rows row s =
+    ap (λ (reversed : List CopyRow). option_map_or (λ (r : CopyRow). r.copies) (find (λ (r : CopyRow). names (copy_span r) s) reversed) 1) (reverse-append rows (row ∷ []))
+    ∙ either (names (copy_span row) s)
+  where
+    found : Option CopyRow
+    found = find (λ (r : CopyRow). names (copy_span r) s) (reverse rows)
+
+    either : (named : Bool) → option_map_or (λ (r : CopyRow). r.copies) (cond named (Some row) found) 1 ≡ cond named row.copies (option_map_or (λ (r : CopyRow). r.copies) found 1)
+    either true = refl
+    either false = refl
+
+names-row_of_one : (t copies : ℕ) → names (copy_span (row_of_one t copies)) t ≡ true
+names-row_of_one t copies = grind (arith, common_steps)
+
+names-others : (t copies s : ℕ) → s ≢ t → names (copy_span (row_of_one t copies)) s ≡ false
+names-others t copies s other = grind (arith, common_steps, other)
+
+-- what is said of the packet after the latest one, and of all others
+copies-now : (seed latest : ℕ) → trial_copies seed (suc (suc latest)) (suc latest) ≡ copies_by (copies_draw seed latest)
+copies-now seed latest = grind (arith, common_steps)
+
+copies-others : (seed latest s : ℕ) → s ≢ suc latest → trial_copies seed (suc (suc latest)) s ≡ trial_copies seed (suc latest) s
+copies-others seed latest zero other = refl
+copies-others seed latest (suc s) other = grind (arith, common_steps, other)
+
+copies-before : (seed latest : ℕ) → trial_copies seed (suc latest) (suc latest) ≡ 1
+copies-before seed latest = grind (arith, common_steps)
+
+copies-none : (seed s : ℕ) → trial_copies seed 1 s ≡ 1
+copies-none seed zero = refl
+copies-none seed (suc s) = grind (arith, common_steps)
+
+-- one more row, or none if a packet arrives once
+script-row : (seed latest copies : ℕ) (rows : List CopyRow) → copies ≡ copies_by (copies_draw seed latest) → ((s : ℕ) → copies_of rows s ≡ trial_copies seed (suc latest) s)
+    → (s : ℕ) → copies_of (rows ++ row_of_one (suc latest) copies ∷ []) s ≡ trial_copies seed (suc (suc latest)) s
+script-row seed latest copies rows is so s =
+    copies_of-push rows (row_of_one (suc latest) copies) s ∙ elim (cases_eq s (suc latest)) [
+      | inl same ↦
+          ap (λ t. cond (names (copy_span (row_of_one (suc latest) copies)) t) copies (copies_of rows t)) same
+          ∙ (ap (λ named. cond named copies (copies_of rows (suc latest))) (names-row_of_one (suc latest) copies) ∙ (is ∙ (sym (copies-now seed latest) ∙ ap (trial_copies seed (suc (suc latest))) (sym same))))
+      | inr other ↦ ap (λ named. cond named copies (copies_of rows s)) (names-others (suc latest) copies s other) ∙ (so s ∙ sym (copies-others seed latest s other))
+    ]
+
+script-none : (seed latest copies : ℕ) (rows : List CopyRow) → copies ≡ copies_by (copies_draw seed latest) → copies ≡ 1 → ((s : ℕ) → copies_of rows s ≡ trial_copies seed (suc latest) s)
+    → (s : ℕ) → copies_of rows s ≡ trial_copies seed (suc (suc latest)) s
+script-none seed latest copies rows is one so s =
+    so s ∙ elim (cases_eq s (suc latest)) [
+      | inl same ↦ ap (trial_copies seed (suc latest)) same ∙ (copies-before seed latest ∙ (sym one ∙ (is ∙ (sym (copies-now seed latest) ∙ ap (trial_copies seed (suc (suc latest))) (sym same)))))
+      | inr other ↦ sym (copies-others seed latest s other)
+    ]
+
+pub script-start : (seed : ℕ) (rows : List CopyRow) → rows ≡ [] → (s : ℕ) → copies_of rows s ≡ trial_copies seed 1 s
+script-start seed rows none s = ap (λ (r : List CopyRow). copies_of r s) none ∙ sym (copies-none seed s)
+
+-- the rows that the packet after the latest one needs
+pub script-more : (seed latest copies : ℕ) (rows : List CopyRow) → copies ≡ copies_by (copies_draw seed latest) → ((s : ℕ) → copies_of rows s ≡ trial_copies seed (suc latest) s)
+    → (s : ℕ) → copies_of (rows ++ rows_for (suc latest) copies) s ≡ trial_copies seed (suc (suc latest)) s
+script-more seed latest copies rows is so s = elim (cases_eq copies 1) [
+  | inl one ↦
+      ap (λ once. copies_of (rows ++ cond once [] (row_of_one (suc latest) copies ∷ [])) s) (eq-eqb copies 1 one)
+      ∙ (ap (λ (all : List CopyRow). copies_of all s) (append-nil rows) ∙ script-none seed latest copies rows is one so s)
+  | inr more ↦ ap (λ once. copies_of (rows ++ cond once [] (row_of_one (suc latest) copies ∷ [])) s) (ne_eqb copies 1 more) ∙ script-row seed latest copies rows is so s
+]
 
 -- ---- inputs
 
@@ -103,3 +197,64 @@ IsValid-trial seed packets f robust some most few least =
 
 pub length-steps : (seed packets f robust : ℕ) → length (trial_history seed packets f robust).steps ≡ packets
 length-steps seed packets f robust = length-history_of (trial_inputs seed packets f) trial_flags (λ _. robust) f (replicate f false) ∙ length-inputs seed packets f
+
+-- ---- what the three runs of a trial owe
+
+-- the flight of a trial
+abbrev pub trial_flight : ℕ → ℕ → Compression
+trial_flight f robust = record { places = f; robust = robust; apid = 100; mask = replicate f false; rows = record { flags = trial_plan; robust = [] } }
+
+walk-trial : (seed packets f robust : ℕ) → IsTrial packets f robust → recording_walk f (trial_recording seed packets f) ≡ record { inputs = trial_inputs seed packets f; rest = []; ending = None }
+walk-trial seed packets f robust trial =
+    recording_walk_from-recording_of f 0 (trial_inputs seed packets f) trial.places (places-inputs seed packets f) (omega (arith, trial.few, length-inputs seed packets f))
+
+pub whole-recording : (seed packets f robust : ℕ) → IsTrial packets f robust → (compress_course (trial_flight f robust) (trial_recording seed packets f)).ending ≡ None
+whole-recording seed packets f robust trial = ap (λ (w : RecordingWalk). w.ending) (walk-trial seed packets f robust trial)
+
+pub owed-recording : (seed packets f robust : ℕ) → IsTrial packets f robust → (texts_of (owed (compress_course (trial_flight f robust) (trial_recording seed packets f)))).output ≡ store_of (trial_history seed packets f robust) 100
+owed-recording seed packets f robust trial =
+    let k = trial_flight f robust in
+    let store = store_of (history_by k (trial_inputs seed packets f)) 100 in
+    ap (λ (w : RecordingWalk). (texts_of (by_ending w.ending (to_output (store_of (history_by k w.inputs) 100)) [])).output) (walk-trial seed packets f robust trial)
+    ∙ (ap (bytes_for outlet.Main) (append-nil (to_output store)) ∙ bytes_for-own outlet.Main store
+    ∙ ap (λ (h : History). store_of h 100) (history-planned (trial_inputs seed packets f) (λ _. robust) f (replicate f false) (omega (arith, trial.few, length-inputs seed packets f))))
+
+-- ---- playing
+
+valid_trial : (seed packets f robust : ℕ) → IsTrial packets f robust → IsValid (trial_history seed packets f robust)
+valid_trial seed packets f robust trial = IsValid-trial seed packets f robust trial.places trial.most trial.few trial.required
+
+pub whole-store : (seed packets f robust : ℕ) → IsTrial packets f robust → (walk (Some 100) (store_of (trial_history seed packets f robust) 100)).ending ≡ None
+whole-store seed packets f robust trial = whole-store_of (trial_history seed packets f robust) 100 (valid_trial seed packets f robust trial) (omega arith)
+
+pub numbers-store : (seed packets f robust : ℕ) (copies : ℕ → ℕ) → IsTrial packets f robust → store_numbers copies 100 (store_of (trial_history seed packets f robust) 100) ≡ played_of copies packets
+numbers-store seed packets f robust copies trial =
+    ap (played_of copies) (count-chosen (trial_history seed packets f robust) 100 (valid_trial seed packets f robust trial) (omega arith) ∙ length-steps seed packets f robust)
+
+pub owed-store : (seed packets f robust : ℕ) (copies : ℕ → ℕ) → IsTrial packets f robust
+    → texts_of (owed (play_course copies 100 (store_of (trial_history seed packets f robust) 100)))
+    ≡ record { output = played_bytes copies 100 (store_of (trial_history seed packets f robust) 100); report = play_report (played_of copies packets) }
+owed-store seed packets f robust copies trial =
+    let store = store_of (trial_history seed packets f robust) 100 in
+    ap (λ ending. texts_of (by_ending ending (to_output (played_bytes copies 100 store)) (to_report (play_report (store_numbers copies 100 store))))) (whole-store seed packets f robust trial)
+    ∙ ((λ i. record { output = bytes_for-first outlet.Main (played_bytes copies 100 store) (play_report (store_numbers copies 100 store)) i; report = bytes_for-last outlet.Report (played_bytes copies 100 store) (play_report (store_numbers copies 100 store)) i })
+    ∙ λ i. record { output = played_bytes copies 100 store; report = play_report (numbers-store seed packets f robust copies trial i) })
+
+-- ---- restoring
+
+pub whole-played : (seed packets f robust : ℕ) → IsTrial packets f robust → (walk (Some 100) (trial_played seed packets f robust)).ending ≡ None
+whole-played seed packets f robust trial =
+    let n = length-steps seed packets f robust in
+    ap (λ (w : Walk). w.ending) (walk-played (trial_history seed packets f robust) (trial_copies seed packets) 100 (valid_trial seed packets f robust trial) (omega arith)
+    (omega (arith, trial.few, n, few-arrivals seed packets (length (trial_history seed packets f robust).steps))))
+
+pub owed-restored : (seed packets f robust : ℕ) → IsTrial packets f robust → texts_of (owed (restore_course f 100 (trial_played seed packets f robust)))
+    ≡ record { output = restored_bytes (trial_history seed packets f robust) (trial_copies seed packets); report = report_text (trial_history seed packets f robust) (trial_copies seed packets) }
+owed-restored seed packets f robust trial =
+    owed-played (trial_history seed packets f robust) (trial_copies seed packets) 100 (valid_trial seed packets f robust trial) (omega arith)
+    (AreGapsShort-few (trial_copies seed packets) (length (trial_history seed packets f robust).steps) (omega (arith, trial.few, length-steps seed packets f robust))) (whole-played seed packets f robust trial)
+
+pub numbers-restored : (seed packets f robust : ℕ) → IsTrial packets f robust → restored_of (store_run f 100 (trial_played seed packets f robust)) ≡ delivered_numbers (trial_history seed packets f robust) (trial_copies seed packets)
+numbers-restored seed packets f robust trial =
+    numbers-played (trial_history seed packets f robust) (trial_copies seed packets) 100 (valid_trial seed packets f robust trial) (omega arith)
+    (AreGapsShort-few (trial_copies seed packets) (length (trial_history seed packets f robust).steps) (omega (arith, trial.few, length-steps seed packets f robust))) (whole-played seed packets f robust trial)

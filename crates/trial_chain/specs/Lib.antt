@@ -1,4 +1,3 @@
 pub mod Draws
 pub mod Trials
-pub mod RunDesk
 pub mod Stages

@@ -1,13 +1,18 @@
--- The names under which a trial holds what it makes.
-use Rattle.std.specs.Prelude.{◌≡◌, ℕ, List, [], ◌∷◌, Contains, Some, IsSome, codes}
+-- The names under which a trial holds what it makes, and the desk in memory for one run of it.
+use Rattle.std.specs.Coded.{Coded, code_by, coded×}
 use Rattle.std.specs.FinMap as map
-use Rattle.desk_ports.specs.Courses.{OutputTexts}
-use Rattle.desk_ports.specs.Meanings.{Kept}
-use Rattle.flight_chain.specs.Stores.{store_of}
+use Rattle.std.specs.Prelude.{◌≡◌, ℕ, List, [], ◌∷◌, Contains, Some, IsSome, codes, true, None, refl}
+use Rattle.std.specs.Str.{bytes_eq}
+use Rattle.desk_ports.specs.Courses.{OutputTexts, Course}
+use Rattle.desk_ports.specs.Meanings.{Kept, Meanings, Counts, kept_at}
+use Rattle.desk_ports.specs.MemState.{MemState, NothingFails, bytes_code, mem_meanings, state_code}
+use Rattle.flight_chain.specs.Compressing.{store_of}
 use Rattle.loss_player.specs.Played.{played_bytes, played_of}
 use Rattle.loss_player.specs.Report.{play_report}
 use Rattle.ground_chain.specs.Deliveries.{report_text, restored_bytes}
 use Rattle.trial_chain.specs.Trials.{trial_apid, trial_copies, trial_history, trial_recording}
+
+-- ---- the names under which a trial holds what it makes
 
 abbrev pub recording_name : List ℕ
 recording_name = codes "recording"
@@ -75,3 +80,46 @@ pub record HoldsTrial (seed packets f robust : ℕ) (held : Kept) : Type 0 where
   pub restored : map.get held restored_name ≡ Some (restored_bytes (trial_history seed packets f robust) (trial_copies seed packets))
   pub report : map.get held report_name ≡ Some (report_text (trial_history seed packets f robust) (trial_copies seed packets))
   pub others : (name : List ℕ) → IsSome (map.get held name) → Contains trial_names name
+
+-- ---- A desk in memory for one run, of which no call is told to fail: what it is seen as, and what it tells
+
+-- the desk, and the name of the run's input
+pub record RunState : Type 0 where
+  pub desk : MemState
+  pub input : List ℕ
+
+abbrev pub run_code : Coded RunState
+run_code = code_by (MemState × List ℕ) (coded× state_code bytes_code) (λ r. (r.desk, r.input)) (λ p. record { desk = p.0; input = p.1 }) (λ _. refl)
+
+-- no call is told to fail, and this is held
+abbrev pub HoldsJust : MemState → Kept → Type 0
+HoldsJust desk kept = NothingFails desk.plan × (desk.held ≡ kept)
+
+-- no call is told to fail, and the input is held
+pub record IsRunDesk (desk : MemState) (input : List ℕ) : Type 0 where
+  pub nothing : NothingFails desk.plan
+  pub held : IsSome (map.get desk.held input)
+
+-- the same, and the course of the input has no fault
+abbrev pub HoldsWhole : {F : Type 0} → MemState → List ℕ → (List ℕ → Course F) → Type 0
+HoldsWhole desk input course = IsRunDesk desk input × ((course (kept_at desk.held input)).ending ≡ None)
+
+-- what it tells, which is everything. It grants the input's name, and every name of an output
+abbrev pub run_meanings : RunState → Meanings
+run_meanings run = record (mem_meanings run.desk) { grants_in = λ name. bytes_eq name run.input }
+
+-- its faults: none of reading, and the growths that were refused
+abbrev pub run_counts : RunState → Counts
+run_counts run = record { reads = 0; writes = run.desk.faults.short }
+
+-- what it tells once the run's input and its output are opened
+abbrev pub run_opened : MemState → List ℕ → List ℕ → Meanings
+run_opened desk input output = record (mem_meanings desk) {
+  input = record { left = Some (kept_at desk.held input); ready = true };
+  output = record { made = Some []; name = Some output; ready = true };
+  grants_in = λ name. bytes_eq name input;
+}
+
+-- and its report is opened too
+abbrev pub run_reported : MemState → List ℕ → List ℕ → List ℕ → Meanings
+run_reported desk input output report = record (run_opened desk input output) { report = record { made = Some []; name = Some report; ready = true } }

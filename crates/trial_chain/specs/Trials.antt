@@ -7,7 +7,7 @@ use Rattle.side_tables.specs.declared.rows.FlagRow.{FlagRow}
 use Rattle.side_tables.specs.Rows.{IsCopyRow, copies_of}
 use Rattle.mask_update.specs.Histories.{History, history_of}
 use Rattle.flight_chain.specs.Recordings.{recording_of}
-use Rattle.flight_chain.specs.Stores.{store_of}
+use Rattle.flight_chain.specs.Compressing.{store_of}
 use Rattle.loss_player.specs.Played.{played_bytes, played_of}
 use Rattle.ground_chain.specs.Deliveries.{delivered_numbers}
 use Rattle.trial_chain.specs.declared.trial.Summary.{Summary}

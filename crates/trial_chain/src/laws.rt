@@ -4,7 +4,7 @@ ghost use Rattle.std.specs.Prelude.{◌≡◌, ◌≤◌, ℕ, [], ◌∷◌, ma
 ghost use Rattle.std.specs.List.{range_with_len};
 ghost use Rattle.bit_vectors.specs.Vectors.{bits_of};
 ghost use Rattle.mask_update.specs.Histories.{IsValid};
-ghost use Rattle.loss_player.specs.Gaps.{AreGapsShort};
+ghost use Rattle.loss_player.specs.Played.{AreGapsShort};
 ghost use Rattle.trial_chain.specs.Draws.{next_number};
 ghost use Rattle.trial_chain.specs.Trials.{trial_copies, trial_history, trial_inputs};
 

@@ -3,7 +3,7 @@
 ghost use Rattle.std.specs.Prelude.{◌≡◌, IfOk, OnOk};
 ghost use Rattle.desk_ports.specs.Meanings.{Begins, Keeps, IsReadyOut};
 ghost use Rattle.desk_ports.specs.MemState.{NothingFails};
-ghost use Rattle.trial_chain.specs.RunDesk.{IsRunDesk, run_meanings, run_counts, run_opened};
+ghost use Rattle.trial_chain.specs.Stages.{IsRunDesk, run_meanings, run_counts, run_opened};
 
 use bit_vectors::NoMemory;
 use desk_ports::{Desk, Failed, Inlet, MemDesk, Outlet};
@@ -18,7 +18,7 @@ pub(crate) struct RunDesk {
 }
 
 impl Model for RunDesk {
-    ghost use Rattle.trial_chain.specs.RunDesk.{RunState, run_code, IsRunDesk};
+    ghost use Rattle.trial_chain.specs.Stages.{RunState, run_code, IsRunDesk};
 
     ghost Value = { RunState };
 

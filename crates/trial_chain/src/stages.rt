@@ -10,8 +10,7 @@ ghost use Rattle.loss_player.specs.Played.{store_numbers};
 ghost use Rattle.loss_player.specs.Playing.{play_course};
 ghost use Rattle.ground_chain.specs.Report.{restored_of};
 ghost use Rattle.ground_chain.specs.Restoring.{restore_course, store_run};
-ghost use Rattle.trial_chain.specs.RunDesk.{HoldsJust, HoldsWhole, IsRunDesk, run_meanings, run_opened, run_reported};
-ghost use Rattle.trial_chain.specs.Stages.{recording_name, store_name, played_name, play_name, restored_name, report_name, with_outputs};
+ghost use Rattle.trial_chain.specs.Stages.{HoldsJust, HoldsWhole, IsRunDesk, run_meanings, run_opened, run_reported, recording_name, store_name, played_name, play_name, restored_name, report_name, with_outputs};
 
 use crate::run_desk::RunDesk;
 use bit_vectors::NoMemory;

@@ -5,8 +5,7 @@ ghost use Rattle.desk_ports.specs.MemState.{empty_desk};
 ghost use Rattle.side_tables.specs.Rows.{IsCopyRow};
 ghost use Rattle.loss_player.specs.Played.{played_of};
 ghost use Rattle.ground_chain.specs.Deliveries.{delivered_numbers};
-ghost use Rattle.trial_chain.specs.RunDesk.{HoldsJust};
-ghost use Rattle.trial_chain.specs.Stages.{HoldsTrial, held_recording, held_store, held_played, held_restored};
+ghost use Rattle.trial_chain.specs.Stages.{HoldsJust, HoldsTrial, held_recording, held_store, held_played, held_restored};
 ghost use Rattle.trial_chain.specs.Trials.{IsTrial, IsTrialScript, every, trial_copies, trial_history, trial_plan, trial_summary};
 
 use crate::generated::{Trial, generate};

@@ -1,15 +1,14 @@
 use Rattle.std.proofs.Common.{◌≡◌, ℕ, length, Option, Some, Ok, ap, ◌∙◌, subst}
 use Rattle.bit_vectors.specs.Vectors.{bits_of}
-use Rattle.bit_vectors.proofs.ByteBits.{bits_of-vector_bytes}
+use Rattle.bit_vectors.proofs.NumberBits.{bits_of-vector_bytes}
 use Rattle.mask_update.specs.Histories.{History}
 use Rattle.mask_update.specs.Masks.{mask_at}
 use Rattle.robust_window.specs.Histories.{level_at, recent_at}
 use Rattle.packet_encode.specs.Encoder.{StandsFor}
-use Rattle.packet_encode.specs.Packets.{form_at, packet_at}
+use Rattle.packet_encode.specs.Forms.{form_at, packet_at}
 use Rattle.packet_decode.specs.Answers.{IsExactAnswer}
-use Rattle.packet_decode.specs.Decoding.{Decoding}
+use Rattle.packet_decode.specs.State.{Decoding, both_known, next_state}
 use Rattle.packet_decode.specs.Spelling.{Spells}
-use Rattle.packet_decode.specs.State.{both_known, next_state}
 use Rattle.packet_decode.specs.declared.decoder.Reading.TheVariants.{Written}
 use Rattle.round_trip.specs.Carrying.{AreInStep, with_forced_input}
 use Rattle.round_trip.proofs.Carried.{carried, places_are}

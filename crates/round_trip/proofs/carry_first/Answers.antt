@@ -1,7 +1,6 @@
 use Rattle.std.proofs.Common.{ℕ, false, replicate, None, ap, ◌∙◌, sym, arith}
 use Rattle.mask_update.specs.Histories.{no_steps}
-use Rattle.packet_decode.specs.Decoding.{Decoding}
-use Rattle.packet_decode.specs.State.{both_known}
+use Rattle.packet_decode.specs.State.{Decoding, both_known}
 use Rattle.round_trip.proofs.Carried.{first-in_step, first_level, first_mask, first_recent}
 use Rattle.round_trip.proofs.carry_first.Goals as goal
 

@@ -1,6 +1,6 @@
 use Rattle.std.proofs.Common.{sym, ◌-◌, ◌/◌, ◌%◌, get_or}
 use Rattle.std.proofs.lemmas.Nat.Bits.{shr_and_one}
-use Rattle.bit_vectors.proofs.ByteBits.{get_or-bits_of}
+use Rattle.bit_vectors.proofs.NumberBits.{get_or-bits_of}
 use Rattle.bit_vectors.proofs.eye.bit_in.Goals as goal
 
 pub returns : goal.returns

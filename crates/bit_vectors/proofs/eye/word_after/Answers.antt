@@ -1,5 +1,5 @@
 use Rattle.std.proofs.Common.{◌≡◌, get_or, ◌∙◌, arith}
-use Rattle.bit_vectors.proofs.FrontWord.{after_fits, Shows-after}
+use Rattle.bit_vectors.proofs.WordBytes.{after_fits, Shows-after}
 use Rattle.bit_vectors.proofs.eye.word_after.Goals as goal
 use Rattle.bit_vectors.proofs.eye.word_after.Goals.{After-from}
 

@@ -1,5 +1,5 @@
 use Rattle.std.proofs.Common.{arith}
-use Rattle.bit_vectors.proofs.FrontWord.{Shows-none, Shows-left}
+use Rattle.bit_vectors.proofs.WordBytes.{Shows-none, Shows-left}
 use Rattle.bit_vectors.proofs.eye.word_left.Goals as goal
 
 pub returns-then-passed-eq64 : goal.returns-then-passed-eq64

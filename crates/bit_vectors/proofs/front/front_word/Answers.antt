@@ -2,7 +2,7 @@ use Rattle.std.proofs.Common.{◌≡◌, ℕ, List, take, arith, inl, inr}
 use Rattle.std.proofs.lemmas.Bool.{cases_lt}
 use Rattle.std.proofs.lemmas.List.{length-take, length-take-le, get_or-take, get_or_past}
 use Rattle.bit_vectors.specs.Vectors.{AreBytes}
-use Rattle.bit_vectors.proofs.FrontWord.{Shows-bytes}
+use Rattle.bit_vectors.proofs.WordBytes.{Shows-bytes}
 use Rattle.bit_vectors.proofs.front.front_word.Goals as goal
 
 front_bytes : (n : ℕ) (bytes front : List ℕ) → front ≡ take n bytes → AreBytes bytes → AreBytes front

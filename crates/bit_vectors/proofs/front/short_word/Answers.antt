@@ -2,7 +2,7 @@ use Rattle.std.proofs.Common.{◌≡◌, ℕ, zero, suc, ◌<◌, List, [], ◌�
 use Rattle.std.proofs.lemmas.Bool.{cases_lt}
 use Rattle.std.proofs.lemmas.List.{get_or_past}
 use Rattle.bit_vectors.specs.Vectors.{AreBytes}
-use Rattle.bit_vectors.proofs.FrontWord.{Shows-bytes}
+use Rattle.bit_vectors.proofs.WordBytes.{Shows-bytes}
 use Rattle.bit_vectors.proofs.front.short_word.Goals as goal
 
 module _ (bytes : List ℕ) (short : length bytes < 8) where

@@ -1,5 +1,5 @@
 use Rattle.std.proofs.Common.{arith}
-use Rattle.bit_vectors.proofs.ByteBits.{length-bits_of, get_or-bits_of, bits_of_injective, length-padded, bits_of-vector_bytes, take-bits_of-vector_bytes}
+use Rattle.bit_vectors.proofs.NumberBits.{length-bits_of, get_or-bits_of, bits_of_injective, length-padded, bits_of-vector_bytes, take-bits_of-vector_bytes}
 use Rattle.bit_vectors.proofs.laws.bytes_and_vectors.Goals as goal
 
 pub returns-clause-eight : goal.returns-clause-eight

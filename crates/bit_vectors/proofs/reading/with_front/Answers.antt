@@ -1,5 +1,5 @@
 use Rattle.std.proofs.Common.{arith}
-use Rattle.bit_vectors.proofs.WordParts.{mixed_below, mixed_front, mixed_others}
+use Rattle.bit_vectors.proofs.WordBytes.{mixed_below, mixed_front, mixed_others}
 use Rattle.bit_vectors.proofs.reading.with_front.Goals as goal
 
 pub overflow_add-result : goal.overflow_add-result

@@ -1,5 +1,5 @@
 use Rattle.std.proofs.Common.{refl}
-use Rattle.bit_vectors.specs.Eye.{bits_left}
+use Rattle.bit_vectors.specs.Reading.{bits_left}
 use Rattle.bit_vectors.proofs.ExactReading.{IsExact-next}
 use Rattle.count_code.specs.Counts.{IsCodeOf, parse_count, word_of}
 use Rattle.count_code.proofs.ExactCounts.{IsExact-count_at}

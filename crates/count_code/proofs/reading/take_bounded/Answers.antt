@@ -1,9 +1,9 @@
 use Rattle.std.proofs.Common.{◌≡◌, ◌∙◌, refl, arith}
 use Rattle.std.proofs.lemmas.Result.{err_from_is_err_and}
 use Rattle.bit_vectors.proofs.NumberBits.{bool_byte_is}
-use Rattle.bit_vectors.proofs.EyeReading.{MovesOn-refl}
+use Rattle.bit_vectors.proofs.ExactReading.{MovesOn-refl}
 use Rattle.count_code.specs.Counts.{parse_bounded}
-use Rattle.count_code.proofs.Steps.{zero_fits_is, one_fits_is, number_more, number_fault}
+use Rattle.count_code.proofs.CountWords.{zero_fits_is, one_fits_is, number_more, number_fault}
 use Rattle.count_code.proofs.reading.take_bounded.Goals as goal
 
 pub loop-weight-init : goal.loop-weight-init

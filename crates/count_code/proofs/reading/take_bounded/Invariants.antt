@@ -1,4 +1,4 @@
-use Rattle.count_code.proofs.Steps.{IsNumberSoFar}
+use Rattle.count_code.proofs.CountWords.{IsNumberSoFar}
 use Rattle.count_code.proofs.reading.take_bounded.Given as goal
 
 abbrev pub invariant-loop-weight : goal.invariant-loop-weight

@@ -1,5 +1,5 @@
 use Rattle.std.proofs.Common.{refl}
-use Rattle.bit_vectors.proofs.EyeReading.{only_by, fault_by}
+use Rattle.bit_vectors.proofs.ExactReading.{only_by, fault_by}
 use Rattle.count_code.specs.Counts.{IsCodeOf, parse_count}
 use Rattle.count_code.proofs.ExactCounts.{IsExact-count_at, counted}
 use Rattle.count_code.proofs.reading.take_count_with.Goals as goal

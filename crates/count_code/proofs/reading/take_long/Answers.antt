@@ -1,5 +1,5 @@
 use Rattle.std.proofs.lemmas.Result.{err_from_is_err_and}
-use Rattle.count_code.proofs.Steps.{power_fits_is, long_more, long_fault, long_end}
+use Rattle.count_code.proofs.CountWords.{power_fits_is, long_more, long_fault, long_end}
 use Rattle.count_code.proofs.reading.take_long.Goals as goal
 
 pub returns-in_err-take_allowed-clause-reading : goal.returns-in_err-take_allowed-clause-reading

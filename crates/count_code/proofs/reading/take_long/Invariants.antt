@@ -1,5 +1,5 @@
 use Rattle.std.proofs.Common.{◌-◌}
-use Rattle.count_code.proofs.Steps.{IsLongSoFar}
+use Rattle.count_code.proofs.CountWords.{IsLongSoFar}
 use Rattle.count_code.proofs.reading.take_long.Given as goal
 
 abbrev pub invariant-loop-digits : goal.invariant-loop-digits

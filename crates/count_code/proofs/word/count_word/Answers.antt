@@ -2,7 +2,7 @@ use Rattle.std.proofs.Common.{◌≡◌, ◌+◌, ◌-◌, ◌*◌, ◌%◌, ◌
 use Rattle.bit_vectors.specs.Vectors.{number_bits}
 use Rattle.std.proofs.lemmas.Nat.{shl_whole, pow-add}
 use Rattle.std.proofs.Math.Nat.{pow-le-pow_right}
-use Rattle.bit_vectors.proofs.Numbers.{number_bits-cat}
+use Rattle.bit_vectors.proofs.NumberBits.{number_bits-cat}
 use Rattle.count_code.proofs.CountWords.{zero_in_one, six_in_three, seven_in_three, count_bits-one, count_bits-short, count_bits-long}
 use Rattle.count_code.proofs.word.count_word.Goals as goal
 use Rattle.count_code.proofs.word.count_word.Goals.{After-number_width-width}

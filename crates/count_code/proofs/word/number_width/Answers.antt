@@ -1,5 +1,5 @@
 use Rattle.std.proofs.Common.{◌+◌, ◌-◌, ◌*◌, ◌≤◌, refl, arith}
-use Rattle.count_code.proofs.Digits.{HasDigits, digits_is, digits_long, digits_most, power_le, power_more}
+use Rattle.count_code.proofs.CountWords.{HasDigits, digits_is, digits_long, digits_most, power_le, power_more}
 use Rattle.count_code.proofs.word.number_width.Goals as goal
 use Rattle.count_code.proofs.word.number_width.Goals.{After-ilog2}
 

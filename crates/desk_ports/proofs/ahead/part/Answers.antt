@@ -1,6 +1,6 @@
 use Rattle.std.proofs.Common.{◌<◌}
 use Rattle.std.proofs.lemmas.List.Elements.{All-take, All-drop}
-use Rattle.desk_ports.proofs.ReadAheads.{All-fits}
+use Rattle.desk_ports.proofs.Desks.{All-fits}
 use Rattle.desk_ports.proofs.ahead.part.Goals as goal
 
 pub returns-clause-bytes : goal.returns-clause-bytes

@@ -1,4 +1,4 @@
-use Rattle.desk_ports.proofs.Faults.{faults-once, faults-twice}
+use Rattle.desk_ports.proofs.Desks.{faults-once, faults-twice}
 use Rattle.desk_ports.proofs.laws.faults_count_once.Goals as goal
 
 pub returns-clause-one : goal.returns-clause-one

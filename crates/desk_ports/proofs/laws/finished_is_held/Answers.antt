@@ -1,5 +1,5 @@
 use Rattle.std.proofs.Common.{refl}
-use Rattle.desk_ports.proofs.Held.{left-finished}
+use Rattle.desk_ports.proofs.Desks.{left-finished}
 use Rattle.desk_ports.proofs.laws.finished_is_held.Goals as goal
 
 pub returns : goal.returns

@@ -1,5 +1,5 @@
 use Rattle.std.proofs.lemmas.Result.{on_ok_weaker, on_err_weaker}
-use Rattle.desk_ports.proofs.Writings.{Adds-wrote, AddsFront-wrote, Wrote-adds, WroteFront-adds, Writes-then}
+use Rattle.desk_ports.proofs.Steps.{Adds-wrote, AddsFront-wrote, Wrote-adds, WroteFront-adds, Writes-then}
 use Rattle.desk_ports.proofs.laws.writes_go_by_their_answer.Goals as goal
 
 pub returns-clause-meant : goal.returns-clause-meant

@@ -4,7 +4,7 @@ use Rattle.std.proofs.lemmas.List.{length-take-le}
 use Rattle.std.proofs.lemmas.Result.{err_from_is_err_and}
 use borrow.Rule.Slice.PartMut.{put_mid}
 use Rattle.desk_ports.specs.Meanings.{Counts, FailsToRead, Meanings, Moves}
-use Rattle.desk_ports.proofs.Transfers.{Moves-then, Moves-ready, take-put_mid-add}
+use Rattle.desk_ports.proofs.Courses.{Moves-then, Moves-ready, take-put_mid-add}
 use Rattle.desk_ports.proofs.transfer.fill.Goals as goal
 
 pub loop-filled-preserved : goal.loop-filled-preserved

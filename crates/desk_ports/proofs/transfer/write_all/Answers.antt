@@ -2,8 +2,8 @@ use Rattle.std.proofs.Common.{◌≡◌, arith, [], ◌++◌, take, drop, take-a
 use Rattle.std.proofs.lemmas.List.{nil_from_length, take_rest}
 use Rattle.std.proofs.lemmas.Result.{err_from_is_err_and}
 use Rattle.desk_ports.specs.Meanings.{Adds, AddsFront, Counts, Meanings, FailsToWrite}
-use Rattle.desk_ports.proofs.Transfers.{Adds-none, Adds-then, Adds-ready}
-use Rattle.desk_ports.proofs.Writings.{Wrote-adds, WroteFront-adds}
+use Rattle.desk_ports.proofs.Courses.{Adds-none, Adds-then, Adds-ready}
+use Rattle.desk_ports.proofs.Steps.{Wrote-adds, WroteFront-adds}
 use Rattle.desk_ports.proofs.transfer.write_all.Goals as goal
 
 pub loop-rest-init : goal.loop-rest-init

@@ -1,11 +1,10 @@
 use Rattle.std.proofs.Common.{List, Bool, length, sym, ap, ◌∙◌, arith}
 use Rattle.desk_ports.specs.Courses.{to_output}
 use Rattle.desk_ports.specs.declared.desk.Outlet.TheVariants as outlet
-use Rattle.desk_ports.proofs.Runs.{to_outlet-append}
+use Rattle.desk_ports.proofs.Courses.{to_outlet-append}
 use Rattle.flight_chain.specs.Recordings.{recording_walk}
-use Rattle.flight_chain.specs.Stores.{store_of}
-use Rattle.flight_chain.specs.Compressing.{history_by, further_packets}
-use Rattle.flight_chain.proofs.Histories.{store_of-further}
+use Rattle.flight_chain.specs.Compressing.{store_of, history_by, further_packets}
+use Rattle.flight_chain.proofs.CompressCourses.{store_of-further}
 use Rattle.flight_chain.proofs.Recordings.{IsLonger-recording}
 use Rattle.flight_chain.proofs.laws.fronts_owe_fronts.Goals as goal
 

@@ -1,7 +1,7 @@
 use Rattle.std.proofs.Common.{ap}
 use Rattle.mask_update.specs.Histories.{History}
-use Rattle.flight_chain.specs.Stores.{store_of}
-use Rattle.flight_chain.proofs.Histories.{history_by-command}
+use Rattle.flight_chain.specs.Compressing.{store_of}
+use Rattle.flight_chain.proofs.CompressCourses.{history_by-command}
 use Rattle.flight_chain.proofs.laws.schedules_without_robustness.Goals as goal
 
 pub returns-clause-history : goal.returns-clause-history

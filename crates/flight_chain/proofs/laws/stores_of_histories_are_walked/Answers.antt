@@ -3,8 +3,8 @@ use Rattle.std.specs.List.{range_with_len}
 use Rattle.std.proofs.lemmas.Simd.{map-map}
 use Rattle.packet_store.specs.SpacePackets.{Packet, plain_packet}
 use Rattle.packet_store.specs.Walks.{walked}
-use Rattle.flight_chain.specs.Stores.{numbered_data}
-use Rattle.flight_chain.proofs.GoodStores.{walk-store_of}
+use Rattle.flight_chain.specs.Compressing.{numbered_data}
+use Rattle.flight_chain.proofs.CompressCourses.{walk-store_of}
 use Rattle.flight_chain.proofs.laws.stores_of_histories_are_walked.Goals as goal
 
 pub returns : goal.returns

@@ -1,8 +1,7 @@
 use Rattle.std.proofs.Common.{[], ap, ◌∙◌, append-nil, arith}
 use Rattle.desk_ports.specs.Courses.{by_ending, to_output}
 use Rattle.flight_chain.specs.Recordings.{RecordingWalk}
-use Rattle.flight_chain.specs.Stores.{store_of}
-use Rattle.flight_chain.specs.Compressing.{history_by}
+use Rattle.flight_chain.specs.Compressing.{store_of, history_by}
 use Rattle.flight_chain.proofs.Recordings.{recording_walk_from-recording_of}
 use Rattle.flight_chain.proofs.laws.whole_recordings_owe_their_store.Goals as goal
 

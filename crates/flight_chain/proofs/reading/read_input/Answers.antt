@@ -1,9 +1,9 @@
 use Rattle.std.proofs.Common.{◌≡◌, ◌^◌, ◌<◌, ◌≤◌, Ok, length, drop, refl, sym, ap, ◌∙◌, subst, arith, rules}
 use Rattle.std.proofs.lemmas.Bool.{false≢true}
 use Rattle.bit_vectors.specs.Vectors.{byte_count}
-use Rattle.desk_ports.specs.ReadAhead.{ReadsOn}
+use Rattle.desk_ports.specs.Meanings.{ReadsOn}
 use Rattle.flight_chain.specs.Reading.{TakesInput}
-use Rattle.flight_chain.proofs.Readings.{TakesInput-whole, Stops-too_many, Stops-cut, Stops-spare, Waits-short}
+use Rattle.flight_chain.proofs.Recordings.{TakesInput-whole, Stops-too_many, Stops-cut, Stops-spare, Waits-short}
 use Rattle.flight_chain.proofs.reading.read_input.Goals as goal
 
 pub returns-in_default-clause-unread : goal.returns-in_default-clause-unread

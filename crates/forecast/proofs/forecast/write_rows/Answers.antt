@@ -2,13 +2,12 @@ use Rattle.std.proofs.Common.{◌≡◌, ℕ, zero, suc, ◌+◌, ◌<◌, ◌�
 use Rattle.desk_ports.specs.declared.desk.Outlet.TheVariants as outlet
 use Rattle.desk_ports.specs.Meanings.{Meanings, Counts}
 use Rattle.desk_ports.specs.Courses.{Outputs, to_output}
-use Rattle.desk_ports.specs.Writings.{Writes}
-use Rattle.desk_ports.proofs.Writings.{Writes-cut-more, Writes-err, Writes-is, Writes-more, Writes-ok, Writes-ready}
+use Rattle.desk_ports.specs.Turns.{Writes}
+use Rattle.desk_ports.proofs.Steps.{Writes-cut-more, Writes-err, Writes-is, Writes-more, Writes-ok, Writes-ready}
 use Rattle.forecast.specs.declared.stretch.Stretch.{Stretch}
 use Rattle.forecast.specs.Prospects.{Prospect, fate_of}
-use Rattle.forecast.specs.Outlooks.{ForecastState, ended_before, foresees, row_of, rows_at, stretch_at}
-use Rattle.forecast.specs.Texts.{closing_rows, header_row, stretch_rows, sure_count}
-use Rattle.forecast.proofs.Rows.{first_rows-at, rows-last, rows-next}
+use Rattle.forecast.specs.Outlooks.{ForecastState, ended_before, foresees, row_of, rows_at, stretch_at, closing_rows, header_row, stretch_rows, sure_count}
+use Rattle.forecast.proofs.Stretches.{first_rows-at, rows-last, rows-next}
 use Rattle.forecast.proofs.forecast.write_rows.Goals as goal
 
 -- the first line and those of the stretches so far

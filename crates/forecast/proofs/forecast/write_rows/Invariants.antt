@@ -2,10 +2,9 @@ use Rattle.std.proofs.Common.{◌≡◌, ◌++◌}
 use Rattle.desk_ports.specs.declared.desk.Outlet.TheVariants as outlet
 use Rattle.desk_ports.specs.Meanings.{IsReadyOut}
 use Rattle.desk_ports.specs.Courses.{to_output}
-use Rattle.desk_ports.proofs.Writings.{HasWritten}
+use Rattle.desk_ports.proofs.Steps.{HasWritten}
 use Rattle.forecast.specs.Prospects.{fate_of}
-use Rattle.forecast.specs.Outlooks.{foresees, rows_at}
-use Rattle.forecast.specs.Texts.{header_row}
+use Rattle.forecast.specs.Outlooks.{foresees, rows_at, header_row}
 use Rattle.forecast.proofs.forecast.write_rows.Given as goal
 
 -- the first line and those of the stretches that have ended were written, and nothing else happened

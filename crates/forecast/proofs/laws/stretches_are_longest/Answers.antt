@@ -1,4 +1,4 @@
-use Rattle.forecast.proofs.Longest.{longest-from, longest-to}
+use Rattle.forecast.proofs.Stretches.{longest-from, longest-to}
 use Rattle.forecast.proofs.laws.stretches_are_longest.Goals as goal
 
 pub returns : goal.returns

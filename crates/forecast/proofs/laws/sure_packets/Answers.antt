@@ -1,7 +1,7 @@
 use Rattle.std.proofs.Common.{Some, subst}
 use Rattle.forecast.specs.Prospects.{IsMaskSure, IsSure, latest_mask_sure, latest_sure}
 use Rattle.packet_encode.proofs.Deliveries.{IsLatestOr, latest-only}
-use Rattle.forecast.proofs.Sure.{latest_mask-right, latest_sure-right, mask_sure-from, mask_sure-to, sure-from, sure-to}
+use Rattle.forecast.proofs.Foresight.{mask_sure-right, latest_sure-right, mask_sure-from, mask_sure-to, sure-from, sure-to}
 use Rattle.forecast.proofs.laws.sure_packets.Goals as goal
 
 pub returns-clause-is : goal.returns-clause-is
@@ -18,6 +18,6 @@ returns-clause-mask c = λ p t. (mask_sure-from p t, mask_sure-to p t)
 
 pub returns-clause-latest_mask : goal.returns-clause-latest_mask
 returns-clause-latest_mask c = λ p t latest. (
-  (λ is. subst (IsLatestOr (IsMaskSure p) t) is (latest_mask-right p t)),
-  (λ is. latest-only (IsMaskSure p) t (latest_mask_sure p t) (Some latest) (latest_mask-right p t) is),
+  (λ is. subst (IsLatestOr (IsMaskSure p) t) is (mask_sure-right p t)),
+  (λ is. latest-only (IsMaskSure p) t (latest_mask_sure p t) (Some latest) (mask_sure-right p t) is),
 )

@@ -2,7 +2,7 @@ use Rattle.std.proofs.Common.{◌≡◌, ◌+◌, ap, sym, subst, ◌∙◌, tru
 use Rattle.forecast.specs.declared.stretch.Stretch.{Stretch}
 use Rattle.forecast.specs.Stretches.{same_fate}
 use Rattle.forecast.specs.Outlooks.{stretch_at}
-use Rattle.forecast.proofs.Rows.{stretch-longer, stretch-new}
+use Rattle.forecast.proofs.Stretches.{stretch-longer, stretch-new}
 use Rattle.forecast.proofs.running.go_on.Goals as goal
 use Rattle.forecast.proofs.running.go_on.Goals.{in-Some+else-is, in_default}
 

@@ -1,6 +1,6 @@
 use Rattle.std.proofs.Common.{ap}
 use Rattle.packet_store.specs.Walks.{Walk}
-use Rattle.ground_chain.proofs.PlayedHistories.{arrivals-played, walk-played, walk-too_many}
+use Rattle.ground_chain.proofs.DeliveredRuns.{arrivals-played, walk-played, walk-too_many}
 use Rattle.ground_chain.proofs.deliveries.played_histories_arrive.Goals as goal
 
 pub returns : goal.returns

@@ -1,7 +1,6 @@
 use Rattle.std.proofs.Common.{◌++◌}
 use Rattle.ground_chain.specs.Report.{header_row, end_row}
-use Rattle.ground_chain.proofs.HistoryNumbers.{numbers-history}
-use Rattle.ground_chain.proofs.HistoryRows.{rows-history}
+use Rattle.ground_chain.proofs.HistoryRows.{numbers-history, rows-history}
 use Rattle.ground_chain.proofs.deliveries.unwritten_packets_are_reported.Goals as goal
 
 pub returns-clause-rows : goal.returns-clause-rows

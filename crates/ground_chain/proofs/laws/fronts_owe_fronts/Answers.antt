@@ -10,12 +10,11 @@ use Rattle.packet_store.specs.SpacePackets.{Packet, is_chosen}
 use Rattle.packet_store.specs.Walks.{walk}
 use Rattle.packet_store.proofs.Walks.{IsLonger-walk_from}
 use Rattle.ground_chain.specs.Run.{nothing_known, run_from, run, known_after}
-use Rattle.ground_chain.specs.Report.{header_row}
-use Rattle.ground_chain.specs.Accounts.{Texts, all_parts}
+use Rattle.ground_chain.specs.Report.{header_row, Texts, all_parts}
 use Rattle.ground_chain.specs.Restoring.{arrival_of, arrivals_of, restored_texts, store_run}
 use Rattle.ground_chain.specs.Receiving.{store_course}
 use Rattle.ground_chain.specs.Listing.{listed_texts, listing_course}
-use Rattle.ground_chain.proofs.Runs.{run_from-append}
+use Rattle.ground_chain.proofs.EveryRun.{run_from-append}
 use Rattle.ground_chain.proofs.RestCourses.{listing_course-is}
 use Rattle.ground_chain.proofs.laws.fronts_owe_fronts.Goals as goal
 

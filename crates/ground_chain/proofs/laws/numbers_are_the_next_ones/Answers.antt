@@ -1,5 +1,5 @@
 use Rattle.std.proofs.Common.{refl, arith}
-use Rattle.ground_chain.proofs.Distances.{number_after-repeat, number_after-above, number_after-count, number_after-least}
+use Rattle.ground_chain.proofs.ListedRows.{number_after-repeat, number_after-above, number_after-count, number_after-least}
 use Rattle.ground_chain.proofs.laws.numbers_are_the_next_ones.Goals as goal
 
 pub returns : goal.returns

@@ -1,6 +1,6 @@
 use Rattle.std.proofs.Common.{arith}
 use Rattle.ground_chain.specs.Run.{nothing_known}
-use Rattle.ground_chain.proofs.Counted.{run_counts, run_packets}
+use Rattle.ground_chain.proofs.Reckonings.{run_counts, run_packets}
 use Rattle.ground_chain.proofs.laws.numbers_count_the_run.Goals as goal
 
 pub returns : goal.returns

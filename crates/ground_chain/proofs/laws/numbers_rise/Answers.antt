@@ -1,9 +1,8 @@
 use Rattle.std.proofs.Common.{◌<◌, List, [], ◌∷◌, ◌++◌, arith}
 use Rattle.std.proofs.lemmas.List.Elements.{All-cons}
 use Rattle.packet_store.specs.SpacePackets.{period}
-use Rattle.ground_chain.specs.Numbers.{number_after}
-use Rattle.ground_chain.specs.Run.{Arrival, nothing_known, known_after}
-use Rattle.ground_chain.specs.Told.{AreArrivals}
+use Rattle.ground_chain.specs.Run.{number_after, Arrival, nothing_known, known_after}
+use Rattle.ground_chain.specs.Report.{AreArrivals}
 use Rattle.ground_chain.proofs.Told.{first_arrival, later_arrivals, number_later, numbers_below, expected_own}
 use Rattle.ground_chain.proofs.laws.numbers_rise.Goals as goal
 

@@ -3,7 +3,7 @@ use Rattle.std.specs.List.{flat_map}
 use Rattle.std.proofs.lemmas.Grind.{flat_map-append}
 use Rattle.ground_chain.specs.Run.{Arrival, Judged, nothing_known, judged_by, judge, known_after, repeat_judged, run}
 use Rattle.ground_chain.specs.Report.{written_bytes, verdict_rows}
-use Rattle.ground_chain.proofs.Runs.{known_from-append, run_from-append}
+use Rattle.ground_chain.proofs.EveryRun.{known_from-append, run_from-append}
 use Rattle.ground_chain.proofs.laws.repeats_change_nothing.Goals as goal
 
 -- what adds nothing of its own

@@ -1,6 +1,6 @@
 use Rattle.std.proofs.Common.{[], ◌∷◌}
 use Rattle.ground_chain.specs.Run.{nothing_known}
-use Rattle.ground_chain.proofs.Runs.{known_from-append, run_from-append}
+use Rattle.ground_chain.proofs.EveryRun.{known_from-append, run_from-append}
 use Rattle.ground_chain.proofs.laws.runs_grow.Goals as goal
 
 pub returns : goal.returns

@@ -2,7 +2,7 @@ use Rattle.ground_chain.proofs.DeliveredRuns.{owed-listed, owed-whole}
 use Rattle.ground_chain.specs.Run.{Judged}
 use Rattle.ground_chain.specs.Report.{header_row, verdict_rows, written_bytes}
 use Rattle.ground_chain.specs.Restoring.{store_run}
-use Rattle.ground_chain.proofs.Writings.{texts-before}
+use Rattle.ground_chain.proofs.RestCourses.{texts-before}
 use Rattle.ground_chain.proofs.laws.whole_stores_owe_their_run.Goals as goal
 
 pub returns-clause-before : goal.returns-clause-before

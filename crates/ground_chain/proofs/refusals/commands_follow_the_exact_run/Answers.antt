@@ -3,11 +3,10 @@ use Rattle.desk_ports.specs.Courses.{to_output}
 use Rattle.packet_decode.specs.Answers.{IsExactAnswer}
 use Rattle.packet_store.specs.Walks.{walk}
 use Rattle.std.specs.Prelude.{Some}
-use Rattle.ground_chain.specs.Numbers.{number_after}
+use Rattle.ground_chain.specs.Run.{number_after, Judged, nothing_known}
 use Rattle.ground_chain.specs.Report.{run_bytes, run_report}
 use Rattle.ground_chain.specs.Listing.{run_listing}
 use Rattle.ground_chain.specs.Restoring.{arrivals_of}
-use Rattle.ground_chain.specs.Run.{Judged, nothing_known}
 use Rattle.ground_chain.specs.Sound.{AreJudged, IsJudged}
 use Rattle.ground_chain.proofs.DeliveredRuns.{owed-listed, owed-whole}
 use Rattle.ground_chain.proofs.Sound.{AreJudged-run, AreJudged-only, judged_exact, judged_only}

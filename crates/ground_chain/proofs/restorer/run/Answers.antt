@@ -2,9 +2,8 @@ use Rattle.std.proofs.Common.{[], ap}
 use Rattle.std.proofs.lemmas.Result.{err_from_is_err_and}
 use Rattle.desk_ports.specs.Courses.{by_stop, to_report}
 use Rattle.desk_ports.specs.Turns.{Steps}
-use Rattle.desk_ports.proofs.Steps.{AfterRun-wrote, IsCutShort-wrote}
-use Rattle.desk_ports.proofs.Writings.{Writes-is}
-use Rattle.packet_store.specs.Faults.{stop_by}
+use Rattle.desk_ports.proofs.Steps.{AfterRun-wrote, IsCutShort-wrote, Writes-is}
+use Rattle.packet_store.specs.StoreReader.{stop_by}
 use Rattle.ground_chain.specs.declared.receiving.Receiving.{Receiving}
 use Rattle.ground_chain.specs.declared.reporting.Reporting.{Reporting}
 use Rattle.ground_chain.specs.Report.{header_row}

@@ -1,5 +1,5 @@
 use Rattle.std.proofs.Common.{refl, arith}
-use Rattle.ground_chain.proofs.SavedReckonings.{after_eight}
+use Rattle.ground_chain.proofs.Reckonings.{after_eight}
 use Rattle.ground_chain.proofs.saved.take_counts.Goals as goal
 
 pub returns-in_err-packets-clause-none : goal.returns-in_err-packets-clause-none

@@ -1,6 +1,5 @@
-use Rattle.late_window.proofs.LateDeliveries.{late-delivery, ordered-delivery}
-use Rattle.late_window.proofs.Delivered.{owed-late}
-use Rattle.late_window.proofs.ShortGaps.{short-gaps}
+use Rattle.late_window.proofs.LateDeliveries.{late-delivery, ordered-delivery, short-gaps}
+use Rattle.late_window.proofs.Held.{owed-late}
 use Rattle.late_window.proofs.laws.late_deliveries_are_restored.Goals as goal
 
 pub returns-clause-order : goal.returns-clause-order

@@ -1,7 +1,6 @@
 use Rattle.std.proofs.Common.{List, length, map, ap, arith}
-use Rattle.late_window.specs.Numbers.{Numbered, numbered}
-use Rattle.late_window.specs.Order.{arrival_of, sorted}
-use Rattle.late_window.proofs.Within.{kept-within}
+use Rattle.late_window.specs.Order.{Numbered, numbered, arrival_of, sorted}
+use Rattle.late_window.proofs.LateDeliveries.{kept-within}
 use Rattle.late_window.proofs.laws.within_the_window_all_are_kept.Goals as goal
 
 pub returns-clause-kept : goal.returns-clause-kept

@@ -1,10 +1,9 @@
 use Rattle.std.proofs.Common.{ap}
 use Rattle.std.proofs.lemmas.Result.{err_from_is_err_and}
 use Rattle.desk_ports.specs.Courses.{by_stop, to_report}
-use Rattle.desk_ports.proofs.Steps.{AfterRun-wrote, IsCutShort-wrote}
-use Rattle.desk_ports.proofs.Writings.{Writes-is}
+use Rattle.desk_ports.proofs.Steps.{AfterRun-wrote, IsCutShort-wrote, Writes-is}
 use Rattle.ground_chain.specs.Report.{header_row}
-use Rattle.packet_store.specs.Faults.{stop_by}
+use Rattle.packet_store.specs.StoreReader.{stop_by}
 use Rattle.late_window.proofs.restorer.run_after_header.Goals as goal
 
 pub returns-in_err-write_all-clause-ran : goal.returns-in_err-write_all-clause-ran

@@ -2,9 +2,9 @@ use Rattle.std.proofs.Common.{◌≡◌, ◌+◌, ◌-◌, ◌<◌, ℕ, suc, Li
 use Rattle.std.specs.List.{insert, remove, swap}
 use Rattle.std.proofs.lemmas.List.{drop_all, length-set, length-take-le}
 use Rattle.std.proofs.lemmas.List.Edits.{length-remove}
-use Rattle.late_window.specs.Numbers.{Numbered}
+use Rattle.late_window.specs.Order.{Numbered}
 use Rattle.late_window.specs.Lines.{AreFrom}
-use Rattle.late_window.proofs.Placing.{AreFrom-before, AreUpTo, AreUpTo-front, held-placed, read-inserted, set-inserted, swap-inserted}
+use Rattle.late_window.proofs.Sortings.{AreFrom-before, AreUpTo, AreUpTo-front, held-placed, read-inserted, set-inserted, swap-inserted}
 use Rattle.late_window.proofs.sorter.hold.Goals as goal
 
 pub loop-at-init : goal.loop-at-init

@@ -5,7 +5,7 @@ use Rattle.packet_store.specs.Walks.{walk, packets_bytes}
 use Rattle.packet_store.proofs.Walks.{IsLonger-walk_from}
 use Rattle.desk_ports.specs.Courses.{to_output}
 use Rattle.desk_ports.specs.declared.desk.Outlet.TheVariants as outlet
-use Rattle.desk_ports.proofs.Runs.{to_outlet-append}
+use Rattle.desk_ports.proofs.Courses.{to_outlet-append}
 use Rattle.loss_player.specs.Played.{played_bytes, played_from, played_packets}
 use Rattle.loss_player.proofs.PlayedPackets.{number_after, played_from-append}
 use Rattle.loss_player.proofs.laws.fronts_owe_fronts.Goals as goal

@@ -2,7 +2,7 @@ use Rattle.std.proofs.Common.{List, ◌<◌, ℕ, All, length, Some, arith}
 use Rattle.packet_store.specs.Walks.{IsGood, walk}
 use Rattle.packet_store.proofs.Walks.{IsWalk-walk_from}
 use Rattle.loss_player.specs.Played.{played_packets}
-use Rattle.loss_player.proofs.PlayedWalks.{good_played, walk_from-many, walk_from-packets}
+use Rattle.loss_player.proofs.PlayCourses.{good_played, walk_from-many, walk_from-packets}
 use Rattle.loss_player.proofs.laws.played_stores_are_walked.Goals as goal
 
 are_good : (copies : ℕ → ℕ) (apid : ℕ) (store : List ℕ) → All (λ b. b < 256) store → All (IsGood (Some apid)) (played_packets copies apid store)

@@ -1,4 +1,4 @@
-use Rattle.loss_player.proofs.Gaps.{gaps_short, gaps_told}
+use Rattle.loss_player.proofs.Tallies.{gaps_short, gaps_told}
 use Rattle.loss_player.proofs.laws.short_gaps_are_told.Goals as goal
 
 pub returns : goal.returns

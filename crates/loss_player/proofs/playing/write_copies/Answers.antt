@@ -1,9 +1,9 @@
 use Rattle.std.proofs.Common.{◌≡◌, ℕ, ◌+◌, ◌-◌, List, ◌++◌, ap, ◌∙◌, arith}
 use Rattle.desk_ports.specs.declared.desk.Outlet.TheVariants as outlet
 use Rattle.desk_ports.specs.Courses.{to_output}
-use Rattle.desk_ports.proofs.Writings.{Writes-cut-more, Writes-is, Writes-more, Writes-none, Writes-ok, Writes-ready}
+use Rattle.desk_ports.proofs.Steps.{Writes-cut-more, Writes-is, Writes-more, Writes-none, Writes-ok, Writes-ready}
 use Rattle.loss_player.specs.Played.{repeated}
-use Rattle.loss_player.proofs.Copies.{repeated-more, repeated-then}
+use Rattle.loss_player.proofs.PlayedPackets.{repeated-more, repeated-then}
 use Rattle.loss_player.proofs.playing.write_copies.Goals as goal
 
 pub loop-init : goal.loop-init

@@ -1,7 +1,7 @@
 use Rattle.desk_ports.specs.declared.desk.Outlet.TheVariants as outlet
 use Rattle.desk_ports.specs.Meanings.{IsReadyOut}
 use Rattle.desk_ports.specs.Courses.{to_output}
-use Rattle.desk_ports.proofs.Writings.{HasWritten}
+use Rattle.desk_ports.proofs.Steps.{HasWritten}
 use Rattle.loss_player.specs.Played.{repeated}
 use Rattle.loss_player.proofs.playing.write_copies.Given as goal
 

@@ -1,6 +1,6 @@
 use Rattle.std.proofs.Common.{◌∙◌}
 use Rattle.desk_ports.specs.declared.desk.Outlet.TheVariants as outlet
-use Rattle.desk_ports.proofs.Writings.{Writes-cut-more, Writes-more}
+use Rattle.desk_ports.proofs.Steps.{Writes-cut-more, Writes-more}
 use Rattle.loss_player.specs.Report.{header_row, numbers_row}
 use Rattle.loss_player.proofs.report.write_report.Goals as goal
 

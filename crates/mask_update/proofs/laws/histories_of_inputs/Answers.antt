@@ -1,4 +1,4 @@
-use Rattle.mask_update.proofs.HistoriesOf.{IsValid-history_of, history_of-push, length-history_of, step_at-history_of}
+use Rattle.mask_update.proofs.StepByStep.{IsValid-history_of, history_of-push, length-history_of, step_at-history_of}
 use Rattle.mask_update.specs.Histories.{Step, forced_flags}
 use Rattle.std.proofs.Common.{ap, ◌∙◌}
 use Rattle.std.proofs.lemmas.Bool.{cond-false, cond-true, le-leb, lt-leb}

@@ -1,6 +1,6 @@
 use Rattle.std.proofs.Common.{◌-◌, arith}
 use Rattle.mask_update.specs.Masks.{latest_new_mask, second_latest_new_mask}
-use Rattle.mask_update.proofs.NewMasks.{latest_new_mask-le, new_mask_at-after_latest, new_mask_at-latest}
+use Rattle.mask_update.proofs.StepByStep.{latest_new_mask-le, new_mask_at-after_latest, new_mask_at-latest}
 use Rattle.mask_update.proofs.laws.new_mask_steps.Goals as goal
 
 pub returns-clause-latest : goal.returns-clause-latest

@@ -1,5 +1,5 @@
 use Rattle.std.proofs.Common.{add-one}
-use Rattle.mask_update.proofs.Moves.{build_at-places, change_at-places, mask_at-places}
+use Rattle.mask_update.proofs.StepByStep.{build_at-places, change_at-places, mask_at-places}
 use Rattle.mask_update.proofs.laws.places_of_masks.Goals as goal
 
 pub returns-clause-mask : goal.returns-clause-mask

@@ -3,7 +3,7 @@ use Rattle.std.specs.Borrow.{Bor}
 use Rattle.std.specs.Prelude.{IfSome}
 use Rattle.state_bytes.specs.Parts.{BeginsVectorIf}
 use Rattle.mask_update.specs.Saved.{BeginsFour}
-use Rattle.mask_update.proofs.SavedMasks.{four_made}
+use Rattle.mask_update.proofs.Standing.{four_made}
 use Rattle.mask_update.proofs.saved.pass_four.Goals as goal
 
 last : (f : ℕ) (bytes r s t : List ℕ) (o : Option (Bor (List ℕ))) → (a : (v : List Bool) × BeginsVectorIf true f v bytes r) → (b : (v : List Bool) × BeginsVectorIf true f v r s) → (c : (v : List Bool) × BeginsVectorIf true f v s t)

@@ -2,10 +2,8 @@ use Rattle.std.proofs.Common.{[], ap, ◌∙◌, arith}
 use Rattle.side_tables.specs.Streams.{stream_at}
 use Rattle.ground_chain.specs.Report.{run_bytes}
 use Rattle.multi_ground.specs.MultiRun.{multi_run}
-use Rattle.multi_ground.proofs.ContentsApart.{output-contents}
-use Rattle.multi_ground.proofs.MultiRuns.{multi_run_from-few}
-use Rattle.multi_ground.proofs.StreamsApart.{apart_from}
-use Rattle.multi_ground.proofs.WellJudged.{all_well}
+use Rattle.multi_ground.proofs.StreamsApart.{output-contents, apart_from}
+use Rattle.multi_ground.proofs.MultiRuns.{multi_run_from-few, all_well}
 use Rattle.multi_ground.proofs.laws.contents_are_apart.Goals as goal
 
 pub returns : goal.returns

@@ -1,4 +1,4 @@
-use Rattle.multi_ground.proofs.PlayedStreams.{restored-played}
+use Rattle.multi_ground.proofs.MultiRuns.{restored-played}
 use Rattle.multi_ground.proofs.laws.played_streams_are_restored.Goals as goal
 
 pub returns : goal.returns

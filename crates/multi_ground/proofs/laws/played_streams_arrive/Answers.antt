@@ -1,4 +1,4 @@
-use Rattle.multi_ground.proofs.PlayedStreams.{arrivals-played, many-played, whole-played}
+use Rattle.multi_ground.proofs.MultiRuns.{arrivals-played, many-played, whole-played}
 use Rattle.multi_ground.proofs.laws.played_streams_arrive.Goals as goal
 
 pub returns : goal.returns

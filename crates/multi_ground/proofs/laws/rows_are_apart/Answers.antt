@@ -5,7 +5,7 @@ use Rattle.ground_chain.specs.Report.{end_row, restored_of, run_rows}
 use Rattle.multi_ground.specs.MultiRun.{stream_arrivals}
 use Rattle.multi_ground.proofs.RowsApart.{report-apart}
 use Rattle.multi_ground.proofs.StreamsApart.{apart_from}
-use Rattle.multi_ground.proofs.WellJudged.{all_well}
+use Rattle.multi_ground.proofs.MultiRuns.{all_well}
 use Rattle.multi_ground.proofs.laws.rows_are_apart.Goals as goal
 
 pub returns : goal.returns

@@ -1,8 +1,7 @@
 use Rattle.std.proofs.Common.{[], arith}
 use Rattle.multi_ground.specs.MultiRun.{multi_run}
-use Rattle.multi_ground.proofs.ContentsApart.{output-walk}
-use Rattle.multi_ground.proofs.MultiRuns.{multi_run_from-few}
-use Rattle.multi_ground.proofs.WellJudged.{all_well}
+use Rattle.multi_ground.proofs.StreamsApart.{output-walk}
+use Rattle.multi_ground.proofs.MultiRuns.{multi_run_from-few, all_well}
 use Rattle.multi_ground.proofs.laws.the_output_is_a_store.Goals as goal
 
 pub returns : goal.returns

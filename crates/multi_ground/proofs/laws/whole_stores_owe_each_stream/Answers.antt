@@ -1,9 +1,9 @@
 use Rattle.std.proofs.Common.{None}
 use Rattle.packet_store.specs.Walks.{walk}
-use Rattle.ground_chain.proofs.Writings.{texts-before}
+use Rattle.ground_chain.proofs.RestCourses.{texts-before}
 use Rattle.multi_ground.specs.MultiOutputs.{multi_header, tagged_rows, written_packet}
 use Rattle.multi_ground.specs.MultiRun.{multi_run}
-use Rattle.multi_ground.proofs.Restored.{owed-store, owed-stream, owed-whole}
+use Rattle.multi_ground.proofs.StreamsApart.{owed-store, owed-stream, owed-whole}
 use Rattle.multi_ground.proofs.laws.whole_stores_owe_each_stream.Goals as goal
 
 pub returns : goal.returns

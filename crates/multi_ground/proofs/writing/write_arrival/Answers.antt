@@ -2,15 +2,15 @@ use Rattle.std.proofs.Common.{ℕ, List, ◌++◌, ◌%◌, ◌≡◌, true, app
 use Rattle.bit_vectors.specs.Vectors.{vector_bytes}
 use Rattle.desk_ports.specs.declared.desk.Outlet.TheVariants as outlet
 use Rattle.desk_ports.specs.Courses.{to_output, to_report}
-use Rattle.desk_ports.proofs.Writings.{Writes-cut, Writes-err, Writes-is, Writes-ok, Writes-ready, Writes-then}
-use Rattle.packet_decode.specs.Decoding.{latest_content}
+use Rattle.desk_ports.proofs.Steps.{Writes-cut, Writes-err, Writes-is, Writes-ok, Writes-ready, Writes-then}
+use Rattle.packet_decode.specs.State.{latest_content}
 use Rattle.packet_store.specs.SpacePackets.{period, space_packet}
 use Rattle.ground_chain.specs.declared.verdict.Verdict.{Verdict}
 use Rattle.ground_chain.specs.Report.{is_written_kind, lost_row, own_row}
-use Rattle.ground_chain.proofs.Writings.{content_written}
+use Rattle.ground_chain.proofs.RestCourses.{content_written}
 use Rattle.multi_ground.specs.MultiRun.{StreamJudged}
 use Rattle.multi_ground.specs.MultiOutputs.{tagged, tagged_rows, written_packet}
-use Rattle.multi_ground.proofs.StreamWritings.{no_packet, one_packet, one_arrival}
+use Rattle.multi_ground.proofs.RowsApart.{no_packet, one_packet, one_arrival}
 use Rattle.multi_ground.proofs.writing.write_arrival.Goals as goal
 
 pub write_rows-requires : goal.write_rows-requires

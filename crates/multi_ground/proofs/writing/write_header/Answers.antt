@@ -1,7 +1,7 @@
 use Rattle.std.proofs.Common.{codes, ap}
 use Rattle.desk_ports.specs.declared.desk.Outlet.TheVariants as outlet
 use Rattle.desk_ports.specs.Courses.{to_report}
-use Rattle.desk_ports.proofs.Writings.{Writes-cut-more, Writes-is, Writes-more}
+use Rattle.desk_ports.proofs.Steps.{Writes-cut-more, Writes-is, Writes-more}
 use Rattle.ground_chain.specs.Report.{header_row}
 use Rattle.multi_ground.proofs.writing.write_header.Goals as goal
 

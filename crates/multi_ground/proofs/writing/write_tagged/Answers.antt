@@ -1,8 +1,8 @@
 use Rattle.std.proofs.Common.{◌<◌, length, ap, ◌∙◌, rules}
 use Rattle.desk_ports.specs.declared.desk.Outlet.TheVariants as outlet
 use Rattle.desk_ports.specs.Courses.{to_report}
-use Rattle.desk_ports.proofs.Writings.{Writes-cut-more, Writes-is, Writes-more}
-use Rattle.multi_ground.proofs.StreamWritings.{tagged-some}
+use Rattle.desk_ports.proofs.Steps.{Writes-cut-more, Writes-is, Writes-more}
+use Rattle.multi_ground.proofs.RowsApart.{tagged-some}
 use Rattle.multi_ground.proofs.writing.write_tagged.Goals as goal
 
 pub returns-in_err-write_all : goal.returns-in_err-write_all

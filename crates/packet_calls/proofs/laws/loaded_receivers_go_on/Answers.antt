@@ -1,8 +1,8 @@
 use Rattle.std.proofs.Common.{◌++◌, ap, subst, sym, ◌∙◌}
 use Rattle.ground_chain.specs.Run.{known_after, nothing_known, run, run_from}
-use Rattle.ground_chain.proofs.Runs.{run_from-append}
-use Rattle.ground_chain.specs.Reckoning.{HasJudged, Reckoning, next_run}
-use Rattle.packet_calls.proofs.States.{receivers_agree}
+use Rattle.ground_chain.proofs.EveryRun.{run_from-append}
+use Rattle.ground_chain.specs.Reception.{HasJudged, Reckoning, next_run}
+use Rattle.packet_calls.proofs.Received.{receivers_agree}
 use Rattle.packet_calls.proofs.laws.loaded_receivers_go_on.Goals as goal
 
 pub returns-clause-answers : goal.returns-clause-answers

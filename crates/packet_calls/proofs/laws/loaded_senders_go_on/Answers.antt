@@ -1,6 +1,6 @@
 use Rattle.std.proofs.Common.{subst, sym}
 use Rattle.packet_encode.specs.Encoder.{EncoderState, StandsFor}
-use Rattle.packet_calls.proofs.States.{senders_agree}
+use Rattle.packet_calls.proofs.Received.{senders_agree}
 use Rattle.packet_calls.proofs.laws.loaded_senders_go_on.Goals as goal
 
 pub returns : goal.returns

@@ -1,5 +1,5 @@
 use Rattle.std.proofs.Common.{refl}
-use Rattle.packet_calls.proofs.States.{receivers_agree}
+use Rattle.packet_calls.proofs.Received.{receivers_agree}
 use Rattle.packet_calls.proofs.laws.receivers_are_their_states.Goals as goal
 
 pub returns : goal.returns

@@ -1,5 +1,5 @@
 use Rattle.std.proofs.Common.{refl}
-use Rattle.packet_calls.proofs.States.{senders_agree}
+use Rattle.packet_calls.proofs.Received.{senders_agree}
 use Rattle.packet_calls.proofs.laws.senders_are_their_states.Goals as goal
 
 pub returns : goal.returns

@@ -1,7 +1,7 @@
 use Rattle.std.proofs.Common.{ℕ, [], length, refl, sym, ap, ◌∙◌}
 use Rattle.mask_update.specs.Histories.{history_of, step_of, with_step}
-use Rattle.mask_update.proofs.HistoriesOf.{length-history_of, history_of-push}
-use Rattle.flight_chain.proofs.Histories.{store_of-push}
+use Rattle.mask_update.proofs.StepByStep.{length-history_of, history_of-push}
+use Rattle.flight_chain.proofs.CompressCourses.{store_of-push}
 use Rattle.packet_calls.proofs.laws.sent_packets_are_stored.Goals as goal
 
 pub returns : goal.returns

@@ -1,5 +1,5 @@
 use Rattle.std.proofs.Common.{sym}
-use Rattle.bit_vectors.proofs.ByteBits.{stored_is}
+use Rattle.bit_vectors.proofs.NumberBits.{stored_is}
 use Rattle.packet_calls.proofs.laws.vectors_are_their_bytes.Goals as goal
 
 pub returns : goal.returns

@@ -1,12 +1,11 @@
 use Rattle.std.proofs.Common.{◌≡◌, ℕ, List, [], ◌∷◌, ◌++◌, append-nil, sym, ap, ◌∙◌}
 use Rattle.std.specs.List.{flat_map}
 use Rattle.std.proofs.lemmas.Grind.{flat_map-append}
-use Rattle.ground_chain.specs.Reception.{known_of, next_judged}
-use Rattle.ground_chain.specs.Reckoning.{HasJudged, Reckoning}
+use Rattle.ground_chain.specs.Reception.{known_of, next_judged, HasJudged, Reckoning}
 use Rattle.ground_chain.specs.Report.{verdict_rows, written_bytes}
 use Rattle.ground_chain.specs.Run.{Arrival, Judged, judge, known_after, nothing_known, run}
 use Rattle.ground_chain.proofs.DeliveredRuns.{owed-whole}
-use Rattle.ground_chain.proofs.Runs.{run_from-append}
+use Rattle.ground_chain.proofs.EveryRun.{run_from-append}
 use Rattle.packet_calls.proofs.laws.verdicts_are_those_of_restoring.Goals as goal
 
 module _ (f count : ℕ) (body : List ℕ) (arrivals : List Arrival) (r : Reckoning) (has : HasJudged f arrivals r) where

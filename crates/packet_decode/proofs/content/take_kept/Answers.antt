@@ -1,6 +1,6 @@
 use Rattle.std.proofs.Common.{refl, sym, ◌∙◌, arith}
 use Rattle.std.proofs.lemmas.List.{length-drop}
-use Rattle.packet_decode.proofs.TakenContent.{place_inside, tells_place, tells_same}
+use Rattle.packet_decode.proofs.KeptContent.{place_inside, tells_place, tells_same}
 use Rattle.packet_decode.proofs.content.take_kept.Goals as goal
 
 pub prove-unreachable-requires : goal.prove-unreachable-requires

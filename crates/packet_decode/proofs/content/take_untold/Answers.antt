@@ -1,7 +1,7 @@
 use Rattle.std.proofs.Common.{Some, None}
 use Rattle.packet_encode.specs.Forms.{wide_by}
 use Rattle.packet_decode.specs.PacketReading.{Spelled, parse_part_with}
-use Rattle.packet_decode.proofs.ExtractedFront.{front_tells}
+use Rattle.packet_decode.proofs.KeptContent.{front_tells}
 use Rattle.packet_decode.proofs.content.take_untold.Goals as goal
 
 pub returns-clause-taken : goal.returns-clause-taken

@@ -1,5 +1,4 @@
-use Rattle.packet_decode.proofs.WindowContent.{content-kept}
-use Rattle.packet_decode.proofs.WindowMask.{deduced_mask-is}
+use Rattle.packet_decode.proofs.WindowKnown.{content-kept, deduced_mask-is}
 use Rattle.packet_decode.proofs.laws.law_of_the_window.Goals as goal
 
 pub returns-clause-mask : goal.returns-clause-mask

@@ -1,6 +1,5 @@
-use Rattle.packet_decode.proofs.ExactData.{IsExact-data_at, IsExact-mask_at, content_exact}
-use Rattle.packet_decode.proofs.PartCompletions.{IsExact-first, content_alone, deduced_mask_alone, deduced_part, deduced_whole, filled, sent_mask_alone, sent_part, sent_whole}
-use Rattle.packet_decode.proofs.SpelledWords.{data_opaque}
+use Rattle.packet_decode.proofs.ExactPacket.{IsExact-data_at, IsExact-mask_at, content_exact}
+use Rattle.packet_decode.proofs.SpelledWords.{IsExact-first, content_alone, deduced_mask_alone, deduced_part, deduced_whole, filled, sent_mask_alone, sent_part, sent_whole, data_opaque}
 use Rattle.packet_decode.proofs.laws.parts_are_completed.Goals as goal
 
 pub returns-clause-first : goal.returns-clause-first

@@ -3,9 +3,8 @@ use Rattle.bit_vectors.specs.Vectors.{number_bits, bits_number}
 use Rattle.bit_vectors.specs.Reading.{parse_front, parse_word, parse_number}
 use Rattle.count_code.specs.Code.{count_bits}
 use Rattle.count_code.specs.Counts.{parse_bounded, parse_long, parse_above_one, parse_after_one, parse_count}
-use Rattle.run_code.specs.Places.{ones_from}
+use Rattle.run_code.specs.Extraction.{ones_from, parse_filled, parse_inverse}
 use Rattle.run_code.specs.Runs.{run_bits, runs_from, parse_ones, parse_vector}
-use Rattle.run_code.specs.Extraction.{parse_filled, parse_inverse}
 use Rattle.packet_encode.specs.Forms.{Form, Part, change_bits, form_bits}
 use Rattle.packet_decode.specs.PacketReading.{parse_kept, parse_named, parse_directions, parse_change, from_edges, parse_mask, parse_whole, parse_whole_with, parse_whole_alone, parse_part_with, parse_content, parse_unsent, parse_maskless, parse_masked, parse_sent, parse_data, parse_parts, parse_padding, parse_end, parse_packet, parse_whole_packet}
 use Rattle.packet_decode.proofs.laws.worked_packets.Goals as goal

@@ -2,12 +2,11 @@ use Rattle.std.proofs.Common.{◌≡◌, ℕ, List, Bool, length, Option, None, 
 use Rattle.std.proofs.lemmas.Result.{err_from_is_err_and}
 use Rattle.std.specs.Option.{option_map}
 use Rattle.std.specs.Prelude.{IfSome}
-use Rattle.bit_vectors.specs.Eye.{bits_left}
-use Rattle.bit_vectors.specs.Reading.{Gives, Read}
+use Rattle.bit_vectors.specs.Reading.{bits_left, Gives, Read}
 use Rattle.packet_decode.specs.State.{deduced_by, mask_after}
 use Rattle.packet_decode.specs.PacketReading.{parse_change}
 use Rattle.packet_decode.specs.Parts.{kept_state, outcome_of, part_by}
-use Rattle.packet_decode.proofs.WholePackets.{moves_on, on_ok, parts_change, parts_data, reach_is, reach_vector}
+use Rattle.packet_decode.proofs.DecoderAnswers.{moves_on, on_ok, parts_change, parts_data, reach_is, reach_vector}
 use Rattle.packet_decode.proofs.packet.take_parts.Goals as goal
 
 pub returns-in_err-take-clause-taken : goal.returns-in_err-take-clause-taken

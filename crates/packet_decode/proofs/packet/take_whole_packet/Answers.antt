@@ -1,8 +1,8 @@
 use Rattle.std.proofs.lemmas.Result.{err_from_is_err_and}
-use Rattle.bit_vectors.specs.Eye.{bits_left}
+use Rattle.bit_vectors.specs.Reading.{bits_left}
 use Rattle.packet_decode.specs.State.{deduced_by}
 use Rattle.packet_decode.specs.Parts.{found_in, kept_state}
-use Rattle.packet_decode.proofs.WholePackets.{fault_told, moves_on, used_is, whole_end, whole_padding, whole_parts, whole_read}
+use Rattle.packet_decode.proofs.DecoderAnswers.{fault_told, moves_on, used_is, whole_end, whole_padding, whole_parts, whole_read}
 use Rattle.packet_decode.proofs.packet.take_whole_packet.Goals as goal
 
 pub returns-in_err-kind-clause-taken : goal.returns-in_err-kind-clause-taken

@@ -5,9 +5,8 @@ use Rattle.std.proofs.lemmas.List.{length-append}
 use Rattle.bit_vectors.specs.Vectors.{number_bits}
 use Rattle.bit_vectors.proofs.NumberBits.{length-number_bits}
 use Rattle.run_code.specs.Runs.{run_bits}
-use Rattle.packet_encode.specs.Forms.{direction_bits, wide_by}
-use Rattle.packet_encode.specs.Packets.{directions_of}
-use Rattle.packet_encode.proofs.Directions.{directions-level_zero, directions-none, front_is, front_most, has_one, has_one-some, has_one-without, has_one-zeros, long_bits, no_change, no_level, quiet_is, short_bits}
+use Rattle.packet_encode.specs.Forms.{direction_bits, wide_by, directions_of}
+use Rattle.packet_encode.proofs.Packets.{directions-level_zero, directions-none, front_is, front_most, has_one, has_one-some, has_one-without, has_one-zeros, long_bits, no_change, no_level, quiet_is, short_bits}
 use Rattle.packet_encode.proofs.changes.put_changes.Goals as goal
 
 -- the recent changes are zero

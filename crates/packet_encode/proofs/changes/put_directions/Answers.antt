@@ -2,10 +2,9 @@ use Rattle.std.proofs.Common.{◌++◌, length, [], ◌∷◌, true, ap, sym, �
 use Rattle.std.proofs.lemmas.List.{length-append, length_push}
 use Rattle.bit_vectors.specs.Vectors.{without_bits}
 use Rattle.run_code.specs.Extraction.{inverse_up}
-use Rattle.run_code.proofs.ExtractedBits.{inverse_is}
+use Rattle.run_code.proofs.InverseBits.{inverse_is}
 use Rattle.packet_encode.specs.Forms.{direction_bits, wide_by}
-use Rattle.packet_encode.proofs.Bounds.{length-inverse_up, ones_most}
-use Rattle.packet_encode.proofs.Directions.{appended, directions-none, directions-some, has_one-some, none_left}
+use Rattle.packet_encode.proofs.Packets.{length-inverse_up, ones_most, appended, directions-none, directions-some, has_one-some, none_left}
 use Rattle.packet_encode.proofs.changes.put_directions.Goals as goal
 
 pub returns-then-is_within-clause-bits : goal.returns-then-is_within-clause-bits

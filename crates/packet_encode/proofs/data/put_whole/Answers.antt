@@ -1,7 +1,7 @@
 use Rattle.std.proofs.Common.{length, ap, arith}
 use Rattle.std.proofs.lemmas.List.{length-append}
 use Rattle.count_code.specs.Code.{count_bits}
-use Rattle.packet_encode.proofs.Bounds.{length-count_bits-most}
+use Rattle.packet_encode.proofs.Packets.{length-count_bits-most}
 use Rattle.packet_encode.proofs.data.put_whole.Goals as goal
 
 pub put_count-requires-clause-room : goal.put_count-requires-clause-room

@@ -1,8 +1,7 @@
 use Rattle.std.proofs.Common.{◌++◌, cond, refl, ap, ◌∙◌}
 use Rattle.bit_vectors.specs.Vectors.{or_bits}
-use Rattle.packet_encode.specs.Forms.{Form, change_bits, data_bits, form_bits}
-use Rattle.packet_encode.specs.Packets.{form_of, sent_content, sent_of}
-use Rattle.packet_encode.proofs.OfHistories.{written_is}
+use Rattle.packet_encode.specs.Forms.{Form, change_bits, data_bits, form_bits, form_of, sent_content, sent_of}
+use Rattle.packet_encode.proofs.Packets.{written_is}
 use Rattle.packet_encode.proofs.encoder.write_packet.Goals as goal
 
 pub returns-clause-bits : goal.returns-clause-bits

@@ -2,8 +2,7 @@ use Rattle.std.proofs.Common.{ap}
 use Rattle.bit_vectors.specs.declared.flags.Flags.{Flags}
 use Rattle.mask_update.specs.Histories.{input_at}
 use Rattle.mask_update.specs.Masks.{mask_at}
-use Rattle.packet_encode.specs.Packets.{sent_content, form_at, sent_of}
-use Rattle.packet_encode.specs.Forms.{wide}
+use Rattle.packet_encode.specs.Forms.{sent_content, form_at, sent_of, wide}
 use Rattle.packet_encode.proofs.laws.forced_packets.Goals as goal
 
 pub returns-clause-mask : goal.returns-clause-mask

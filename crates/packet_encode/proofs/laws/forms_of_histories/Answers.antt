@@ -1,4 +1,4 @@
-use Rattle.packet_encode.proofs.OfHistories.{form_at-fits, form_at-is_form}
+use Rattle.packet_encode.proofs.Packets.{form_at-fits, form_at-is_form}
 use Rattle.packet_encode.proofs.laws.forms_of_histories.Goals as goal
 
 pub returns-clause-is_form : goal.returns-clause-is_form

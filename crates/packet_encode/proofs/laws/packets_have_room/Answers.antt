@@ -1,5 +1,5 @@
 use Rattle.std.proofs.Common.{arith}
-use Rattle.packet_encode.proofs.OfHistories.{form_at-most, places_most}
+use Rattle.packet_encode.proofs.Packets.{form_at-most, places_most}
 use Rattle.packet_encode.proofs.laws.packets_have_room.Goals as goal
 
 pub returns-clause-bits : goal.returns-clause-bits

@@ -1,4 +1,4 @@
-use Rattle.packet_encode.proofs.Earlier.{packet_at-before, packet_at-same}
+use Rattle.packet_encode.proofs.Deliveries.{packet_at-before, packet_at-same}
 use Rattle.packet_encode.proofs.laws.packets_of_the_past.Goals as goal
 
 pub returns-clause-more : goal.returns-clause-more

@@ -1,7 +1,7 @@
 use Rattle.std.proofs.Common.{refl}
 use Rattle.bit_vectors.specs.Vectors.{number_bits}
 use Rattle.count_code.specs.Code.{count_bits}
-use Rattle.run_code.specs.Places.{ones_from}
+use Rattle.run_code.specs.Extraction.{ones_from}
 use Rattle.run_code.specs.Runs.{run_bits, runs_from}
 use Rattle.packet_encode.specs.Forms.{change_bits, form_bits}
 use Rattle.packet_encode.proofs.laws.worked_forms.Goals as goal

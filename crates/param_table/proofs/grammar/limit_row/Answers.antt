@@ -1,5 +1,5 @@
 use Rattle.std.proofs.Common.{ℤ, ◌^◌, ◌<◌, Option, IfSome, unsigned_abs, subst}
-use Rattle.param_table.proofs.Limits.{IsLimit-read}
+use Rattle.param_table.proofs.Words.{IsLimit-read}
 use Rattle.param_table.proofs.grammar.limit_row.Goals as goal
 
 pub returns-clause-right : goal.returns-clause-right

@@ -3,7 +3,7 @@ use Rattle.desk_ports.specs.Courses.{Outputs}
 use Rattle.flight_chain.specs.Recordings.{recording_walk}
 use Rattle.flight_chain.proofs.Recordings.{IsLonger-recording}
 use Rattle.param_table.specs.Tabling.{headers, packet_texts, packets_texts}
-use Rattle.param_table.proofs.NumberedPackets.{texts-append}
+use Rattle.param_table.proofs.TableCourses.{texts-append}
 use Rattle.param_table.proofs.laws.fronts_owe_fronts.Goals as goal
 
 pub returns : goal.returns

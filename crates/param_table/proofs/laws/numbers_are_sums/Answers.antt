@@ -1,6 +1,6 @@
 use Rattle.std.proofs.Common.{ap}
 use Rattle.param_table.specs.Cells.{first_bit, signed_if}
-use Rattle.param_table.proofs.Sums.{number_in-sum}
+use Rattle.param_table.proofs.Words.{number_in-sum}
 use Rattle.param_table.proofs.laws.numbers_are_sums.Goals as goal
 
 pub returns-clause-number : goal.returns-clause-number

@@ -3,7 +3,7 @@ use Rattle.desk_ports.specs.Courses.{by_ending, texts_of, to_report}
 use Rattle.flight_chain.specs.Recordings.{RecordingWalk, recording_walk}
 use Rattle.flight_chain.proofs.Recordings.{recording_walk_from-recording_of}
 use Rattle.param_table.specs.Tabling.{headers, last_report_row, packets_texts}
-use Rattle.param_table.proofs.TableTexts.{texts-before, texts-table}
+use Rattle.param_table.proofs.TableCourses.{texts-before, texts-table}
 use Rattle.param_table.proofs.laws.whole_recordings_owe_their_texts.Goals as goal
 
 pub returns-clause-before : goal.returns-clause-before

@@ -1,5 +1,5 @@
 use Rattle.std.proofs.Common.{append_assoc}
-use Rattle.param_table.proofs.Limits.{same-wide}
+use Rattle.param_table.proofs.Words.{same-wide}
 use Rattle.param_table.proofs.texts.put_violation.Goals as goal
 
 pub returns : goal.returns

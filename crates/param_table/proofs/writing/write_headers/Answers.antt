@@ -1,6 +1,6 @@
 use Rattle.std.proofs.Common.{ap, ◌∙◌}
 use Rattle.desk_ports.specs.Courses.{to_output, to_report}
-use Rattle.desk_ports.proofs.Writings.{Writes-cut, Writes-is, Writes-then}
+use Rattle.desk_ports.proofs.Steps.{Writes-cut, Writes-is, Writes-then}
 use Rattle.param_table.specs.Texts.{header_row}
 use Rattle.param_table.proofs.writing.write_headers.Goals as goal
 

@@ -1,6 +1,6 @@
 use Rattle.std.proofs.Common.{ap, ◌∙◌}
 use Rattle.desk_ports.specs.Courses.{to_output, to_report}
-use Rattle.desk_ports.proofs.Writings.{Writes-cut, Writes-is, Writes-then}
+use Rattle.desk_ports.proofs.Steps.{Writes-cut, Writes-is, Writes-then}
 use Rattle.param_table.specs.Texts.{packet_violations, violation_rows}
 use Rattle.param_table.proofs.writing.write_packet.Goals as goal
 

@@ -1,5 +1,5 @@
 use Rattle.std.proofs.Common.{ℤ, unsigned_abs, ◌<◌, ◌^◌, sym, subst}
-use Rattle.param_table.proofs.Limits.{same-wide}
+use Rattle.param_table.proofs.Words.{same-wide}
 use Rattle.param_table.proofs.writing.write_violation.Goals as goal
 
 pub put_violation-requires-clause-value : goal.put_violation-requires-clause-value

@@ -3,10 +3,10 @@ use Rattle.std.specs.Option.{option_to_list}
 use Rattle.std.proofs.lemmas.List.{take_all}
 use Rattle.desk_ports.specs.declared.desk.Outlet.TheVariants as outlet
 use Rattle.desk_ports.specs.Courses.{to_report}
-use Rattle.desk_ports.proofs.Writings.{Writes-cut-more, Writes-is, Writes-more, Writes-none, Writes-ok, Writes-ready}
+use Rattle.desk_ports.proofs.Steps.{Writes-cut-more, Writes-is, Writes-more, Writes-none, Writes-ok, Writes-ready}
 use Rattle.param_table.specs.declared.rows.Column.{Column}
 use Rattle.param_table.specs.Texts.{packet_violations, violation_of, violation_rows}
-use Rattle.param_table.proofs.Violations.{rows-more, rows-split, count-more, count-some, count-none}
+use Rattle.param_table.proofs.TableCourses.{rows-more, rows-split, count-more, count-some, count-none}
 use Rattle.param_table.proofs.writing.write_violations.Goals as goal
 use Rattle.param_table.proofs.writing.write_violations.Goals.{then-branch, else-branch}
 

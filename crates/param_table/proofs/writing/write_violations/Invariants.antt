@@ -2,7 +2,7 @@ use Rattle.std.proofs.Common.{◌≡◌, ◌≤◌, length, take}
 use Rattle.desk_ports.specs.declared.desk.Outlet.TheVariants as outlet
 use Rattle.desk_ports.specs.Meanings.{IsReadyOut}
 use Rattle.desk_ports.specs.Courses.{to_report}
-use Rattle.desk_ports.proofs.Writings.{HasWritten}
+use Rattle.desk_ports.proofs.Steps.{HasWritten}
 use Rattle.param_table.specs.Texts.{packet_violations, violation_rows}
 use Rattle.param_table.proofs.writing.write_violations.Given as goal
 

@@ -1,6 +1,6 @@
 use Rattle.std.proofs.Common.{sym, subst}
 use Rattle.pocket_c.specs.Running.{HasAnswered}
-use Rattle.pocket_c.proofs.Exits.{has_answered}
+use Rattle.pocket_c.proofs.Runs.{has_answered}
 use Rattle.pocket_c.proofs.desk.pocket_run.Goals as goal
 
 pub returns-in-Ok-clause-ran : goal.returns-in-Ok-clause-ran

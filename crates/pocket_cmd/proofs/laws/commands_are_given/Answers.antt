@@ -1,8 +1,7 @@
 use Rattle.std.proofs.Common.{codes}
 use Rattle.pocket_cmd.specs.Words.{bits, text_of}
 use Rattle.pocket_cmd.proofs.Apart.{AreApart-command_of}
-use Rattle.pocket_cmd.proofs.Given.{IsCommand-command_of}
-use Rattle.pocket_cmd.proofs.Masks.{length-first_mask}
+use Rattle.pocket_cmd.proofs.Given.{IsCommand-command_of, length-first_mask}
 use Rattle.pocket_cmd.proofs.laws.commands_are_given.Goals as goal
 
 pub returns-clause-right : goal.returns-clause-right

@@ -1,4 +1,4 @@
-use Rattle.pocket_cmd.proofs.Compositions.{IsValid-recorded, IsInputWhole-history, owed-chain, owed-played_store, owed-recorded, owed-restored, whole-restored}
+use Rattle.pocket_cmd.proofs.Headline.{IsValid-recorded, IsInputWhole-history, owed-chain, owed-played_store, owed-recorded, owed-restored, whole-restored}
 use Rattle.pocket_cmd.proofs.laws.commands_compose.Goals as goal
 
 pub returns-clause-compress : goal.returns-clause-compress

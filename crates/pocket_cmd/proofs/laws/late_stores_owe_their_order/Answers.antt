@@ -5,13 +5,13 @@ use Rattle.packet_store.specs.Walks.{walk}
 use Rattle.packet_store.specs.declared.fault.WalkFault.{WalkFault}
 use Rattle.ground_chain.specs.Deliveries.{report_text, restored_bytes}
 use Rattle.late_window.specs.Restoring.{late_course}
-use Rattle.late_window.specs.Rows.{late_row}
-use Rattle.late_window.proofs.Delivered.{owed-late}
-use Rattle.late_window.proofs.Wholes.{owed-whole}
+use Rattle.late_window.specs.Order.{late_row}
+use Rattle.late_window.proofs.Held.{owed-late}
+use Rattle.late_window.proofs.Rests.{owed-whole}
 use Rattle.pocket_cmd.specs.declared.verbs.Verb.TheVariants.{Late}
 use Rattle.pocket_cmd.specs.Words.{Words, apid, bits, window}
 use Rattle.pocket_cmd.specs.Delivery.{IsInputWhole}
-use Rattle.pocket_cmd.specs.Faults.{of_store}
+use Rattle.pocket_cmd.specs.Courses.{of_store}
 use Rattle.pocket_cmd.proofs.Faults.{owed-with_fault}
 use Rattle.pocket_cmd.proofs.laws.late_stores_owe_their_order.Goals as goal
 

@@ -6,13 +6,12 @@ use Rattle.side_tables.specs.Texts.{records_of}
 use Rattle.side_tables.proofs.StreamRows.{rows_of-streams}
 use Rattle.multi_ground.specs.Apart.{HasStream}
 use Rattle.multi_ground.specs.MultiOutputs.{multi_course}
-use Rattle.multi_ground.proofs.PlayedStreams.{restored-played}
-use Rattle.multi_ground.proofs.Restored.{owed-store, owed-stream}
+use Rattle.multi_ground.proofs.MultiRuns.{restored-played}
+use Rattle.multi_ground.proofs.StreamsApart.{owed-store, owed-stream}
 use Rattle.pocket_cmd.specs.declared.verbs.Verb.TheVariants.{Multi}
 use Rattle.pocket_cmd.specs.Words.{Words}
-use Rattle.pocket_cmd.specs.Courses.{course_of}
+use Rattle.pocket_cmd.specs.Courses.{course_of, of_store}
 use Rattle.pocket_cmd.specs.Delivery.{IsInputWhole}
-use Rattle.pocket_cmd.specs.Faults.{of_store}
 use Rattle.pocket_cmd.proofs.Faults.{owed-with_fault, unmapped}
 use Rattle.pocket_cmd.proofs.laws.streams_are_restored_apart.Goals as goal
 

@@ -1,6 +1,6 @@
 use Rattle.std.proofs.Common.{◌≡◌, ◌-◌, length, drop}
 use Rattle.bit_vectors.specs.Vectors.{bits_of}
-use Rattle.pocket_cmd.proofs.Masks.{one_of}
+use Rattle.pocket_cmd.proofs.Given.{one_of}
 use Rattle.pocket_cmd.proofs.mask.has_spare_bit.Given as goal
 
 -- none of the bits so far is a spare one that is 1

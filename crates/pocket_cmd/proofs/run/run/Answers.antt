@@ -1,5 +1,5 @@
 use Rattle.std.proofs.Common.{◌≡◌, Err, inl, refl, subst}
-use Rattle.desk_ports.specs.Stop.{ReadFault, WriteFault}
+use Rattle.desk_ports.specs.Meanings.{ReadFault, WriteFault}
 use Rattle.pocket_cmd.specs.declared.run.Unopened.TheVariants as unopened
 use Rattle.pocket_cmd.specs.Openings.{view_names, AfterOpening, HasOpeningCause}
 use Rattle.pocket_cmd.specs.Status.{HasStatusCause, status_by}

@@ -1,13 +1,12 @@
 use Rattle.std.proofs.Common.{is_some, Result, Ok, Err, refl, ◌∙◌, subst}
-use Rattle.desk_ports.specs.Meanings.{FailsToWrite, Meanings}
-use Rattle.desk_ports.specs.Stop.{WriteFault}
+use Rattle.desk_ports.specs.Meanings.{FailsToWrite, Meanings, WriteFault}
 use Rattle.pocket_cmd.specs.declared.job.Job.{Job}
 use Rattle.pocket_cmd.specs.declared.status.Refusal.{Refusal}
 use Rattle.pocket_cmd.specs.Command.{Names}
 use Rattle.pocket_cmd.specs.Jobs.{AfterJob, AreNamesOf, job_course, reads_input}
 use Rattle.pocket_cmd.specs.Openings.{view_names}
 use Rattle.pocket_cmd.specs.Status.{IsEnded}
-use Rattle.pocket_cmd.proofs.Opened.{EndsBy-ended, IsEnded-stopped, RunStands-finished, HasRunWriteFailed-unfinished}
+use Rattle.pocket_cmd.proofs.Kept.{EndsBy-ended, IsEnded-stopped, RunStands-finished, HasRunWriteFailed-unfinished}
 use Rattle.pocket_cmd.proofs.run.run_opened.Goals as goal
 
 -- the job reads an input if there is a name of one

@@ -2,7 +2,7 @@ use Rattle.std.proofs.Common.{◌≡◌, ◌+◌, ◌-◌, ◌≤◌, ◌++◌, 
 use Rattle.std.proofs.lemmas.List.{with_items_is}
 use borrow.Rule.Slice.PartMut.{put_mid}
 use Rattle.desk_ports.specs.Meanings.{Moves}
-use Rattle.desk_ports.proofs.Transfers.{Moves-then, Moves-ready, take-put_mid-add}
+use Rattle.desk_ports.proofs.Courses.{Moves-then, Moves-ready, take-put_mid-add}
 use Rattle.pocket_cmd.proofs.text.fill_text.Goals as goal
 
 pub loop-filled-preserved : goal.loop-filled-preserved

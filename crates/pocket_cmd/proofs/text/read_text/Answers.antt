@@ -1,4 +1,4 @@
-use Rattle.pocket_cmd.proofs.CutOff.{IsTextUnread-lost, OnErr-by}
+use Rattle.pocket_cmd.proofs.TextsFirst.{IsTextUnread-lost, OnErr-by}
 use Rattle.pocket_cmd.proofs.text.read_text.Goals as goal
 
 pub returns-clause-cut_off : goal.returns-clause-cut_off

@@ -5,14 +5,12 @@ use Rattle.pocket_cmd.specs.declared.status.Refusal.TheVariants as refusal
 use Rattle.pocket_cmd.specs.declared.verbs.Verb.TheVariants.{Forecast, Restore}
 use Rattle.pocket_cmd.specs.Command.{names_of, view_command}
 use Rattle.pocket_cmd.specs.Outcome.{Stands, AfterCommand, AfterRefusal, IsScriptFirst, IsSideJudged, IsTextFirst}
-use Rattle.pocket_cmd.proofs.Apart.{AreApart-command_of, kept_as_made}
+use Rattle.pocket_cmd.proofs.Apart.{AreApart-command_of, kept_as_made, AreGranted-command, same_command, not_both, ends_for}
 use Rattle.pocket_cmd.specs.Status.{class_of}
 use Rattle.pocket_cmd.proofs.Given.{IsCommand-command_of}
-use Rattle.pocket_cmd.proofs.Granted.{AreGranted-command, same_command, not_both, ends_for}
 use Rattle.pocket_cmd.proofs.Performed.{AfterRefusal-answer, Stands-answer}
 use Rattle.pocket_cmd.proofs.Kept.{Leaves-refused}
-use Rattle.pocket_cmd.proofs.Sided.{IsSideJudged-answer, left-too_long}
-use Rattle.pocket_cmd.proofs.TextsFirst.{script-first, side-first}
+use Rattle.pocket_cmd.proofs.TextsFirst.{IsSideJudged-answer, left-too_long, script-first, side-first}
 use Rattle.pocket_cmd.proofs.Headline.{Done-whole, HasWritten-restored}
 use Rattle.pocket_cmd.proofs.top.pocket.Goals as goal
 

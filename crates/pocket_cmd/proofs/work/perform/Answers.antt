@@ -4,8 +4,7 @@ use Rattle.pocket_cmd.specs.declared.text.TextFault.TheVariants as unread
 use Rattle.pocket_cmd.specs.Command.{Names, view_command, names_of}
 use Rattle.pocket_cmd.specs.Openings.{IsText, IsTextLong, with_text}
 use Rattle.pocket_cmd.specs.Outcome.{AfterText, IsAnswered}
-use Rattle.pocket_cmd.proofs.Begun.{AfterCommand-read}
-use Rattle.pocket_cmd.proofs.Unread.{IsAnswered-unread}
+use Rattle.pocket_cmd.proofs.Performed.{AfterCommand-read, IsAnswered-unread}
 use Rattle.pocket_cmd.proofs.work.perform.Goals as goal
 
 pub returns-in-Err-clause-ends : goal.returns-in-Err-clause-ends

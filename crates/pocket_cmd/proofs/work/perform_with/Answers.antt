@@ -3,8 +3,7 @@ use Rattle.pocket_cmd.specs.Command.{Names, view_command}
 use Rattle.pocket_cmd.specs.Jobs.{job_course}
 use Rattle.pocket_cmd.specs.Outcome.{AfterNames}
 use Rattle.pocket_cmd.specs.Status.{HasStatusCause, IsEnded, class_of, status_by}
-use Rattle.pocket_cmd.proofs.Begun.{AfterTextClass-not_begun, IsAnsweredBy-run, IsEnded-made, answer-not_begun}
-use Rattle.pocket_cmd.proofs.Performed.{AfterText-run}
+use Rattle.pocket_cmd.proofs.Performed.{AfterTextClass-not_begun, IsAnsweredBy-run, IsEnded-made, answer-not_begun, AfterText-run}
 use Rattle.pocket_cmd.proofs.work.perform_with.Goals as goal
 
 pub returns-in-Ok-clause-after : goal.returns-in-Ok-clause-after

@@ -1,4 +1,4 @@
-use Rattle.robust_window.proofs.Earlier.{level_at-before, recent_at-before, twice_at-before}
+use Rattle.robust_window.proofs.OfHistories.{level_at-before, recent_at-before, twice_at-before}
 use Rattle.robust_window.proofs.laws.earlier_steps_stay.Goals as goal
 
 pub returns-clause-recent : goal.returns-clause-recent

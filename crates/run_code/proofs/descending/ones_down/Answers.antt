@@ -1,5 +1,5 @@
 use Rattle.std.proofs.Common.{◌-◌, ◌/◌, arith}
-use Rattle.run_code.proofs.OnesLeft.{all_left}
+use Rattle.run_code.proofs.Gathering.{all_left}
 use Rattle.run_code.proofs.descending.ones_down.Goals as goal
 
 pub returns : goal.returns

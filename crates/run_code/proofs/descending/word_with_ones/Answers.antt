@@ -1,5 +1,5 @@
 use Rattle.std.proofs.Common.{arith, refl}
-use Rattle.run_code.proofs.OnesLeft.{none_left, same_left}
+use Rattle.run_code.proofs.Gathering.{none_left, same_left}
 use Rattle.run_code.proofs.descending.word_with_ones.Goals as goal
 
 pub returns-in_err-place-clause-none : goal.returns-in_err-place-clause-none

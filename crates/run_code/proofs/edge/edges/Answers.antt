@@ -1,6 +1,5 @@
 use Rattle.std.proofs.Common.{◌≡◌, ℕ, ◌+◌, ◌-◌, ◌*◌, ◌≤◌, eqb, false, length, get_or, ap, ◌∙◌, arith}
-use Rattle.run_code.proofs.EdgeBits.{edges_are}
-use Rattle.run_code.proofs.EdgeWords.{edges_spare, edges_more, top_bit}
+use Rattle.run_code.proofs.EdgeWords.{edges_are, edges_spare, edges_more, top_bit}
 use Rattle.run_code.proofs.edge.edges.Goals as goal
 use Rattle.run_code.proofs.edge.edges.Goals.{After-word-word}
 

@@ -1,6 +1,6 @@
 use Rattle.std.proofs.Common.{◌≡◌, ◌*◌, length, get_or, eqb, false, ℕ, ◌+◌, ◌<◌, ◌≤◌}
 use Rattle.bit_vectors.specs.Words.{word_count}
-use Rattle.run_code.proofs.EdgeBits.{xor}
+use Rattle.run_code.proofs.EdgeWords.{xor}
 use Rattle.run_code.proofs.edge.edges.Given as goal
 
 -- the words from here on are done

@@ -1,6 +1,5 @@
 use Rattle.std.proofs.Common.{◌≡◌, ℕ, ◌+◌, ◌-◌, ◌*◌, ◌^◌, ◌<◌, ◌≤◌, bit_xor, eqb, false, length, get_or, ap, sym, ◌∙◌, arith}
-use Rattle.run_code.proofs.EdgeBits.{edges_are}
-use Rattle.run_code.proofs.EdgeWords.{AreEdges, AreEdges-summed, summed_below, summed_spare, summed_more, top_bit}
+use Rattle.run_code.proofs.EdgeWords.{edges_are, AreEdges, AreEdges-summed, summed_below, summed_spare, summed_more, top_bit}
 use Rattle.run_code.proofs.edge.from_edges.Goals as goal
 use Rattle.run_code.proofs.edge.from_edges.Goals.{After-summed}
 

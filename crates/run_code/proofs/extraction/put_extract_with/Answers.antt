@@ -7,8 +7,7 @@ use Rattle.std.proofs.lemmas.Nat.Bits.{bit_at-zero}
 use Rattle.bit_vectors.specs.Vectors.{bits_number, number_bits}
 use Rattle.bit_vectors.specs.Words.{IsWord}
 use Rattle.bit_vectors.proofs.NumberBits.{length-number_bits}
-use Rattle.run_code.specs.Places.{ones_from, places_before, places_down}
-use Rattle.run_code.specs.Extraction.{bits_at, extract}
+use Rattle.run_code.specs.Extraction.{ones_from, places_before, places_down, bits_at, extract}
 use Rattle.run_code.proofs.Ones.{ones_below, length-places_down}
 use Rattle.run_code.proofs.Gathering.{word_extract, gathered_bits, word_number_below, places_before_is, places_before_all, before_step, before_ones, same_lengths, no_number, fits_word}
 use Rattle.run_code.proofs.extraction.put_extract_with.Goals as goal

@@ -1,8 +1,7 @@
 use Rattle.std.proofs.Common.{◌≡◌, ◌+◌, ◌^◌, ◌<◌, ◌≤◌, ◌++◌, length}
 use Rattle.bit_vectors.specs.Vectors.{number_bits}
 use Rattle.bit_vectors.specs.Words.{word_count}
-use Rattle.run_code.specs.Places.{places_before}
-use Rattle.run_code.specs.Extraction.{bits_at, extract}
+use Rattle.run_code.specs.Extraction.{places_before, bits_at, extract}
 use Rattle.run_code.proofs.extraction.put_extract_with.Given as goal
 
 -- the bits so far, the held bits, and the bits at the ones of the words that are left are all bits

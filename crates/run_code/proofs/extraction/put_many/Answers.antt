@@ -1,6 +1,6 @@
 use Rattle.std.proofs.Common.{◌≡◌, ◌+◌, ◌-◌, ◌<◌, ℕ, zero, suc, Bool, List, length, refl, ◌∙◌, arith}
 use Rattle.std.specs.Int.RustNames.{count_ones}
-use Rattle.run_code.specs.Places.{places_before}
+use Rattle.run_code.specs.Extraction.{places_before}
 use Rattle.run_code.proofs.Gathering.{before_ones, same_lengths}
 use Rattle.run_code.proofs.extraction.put_many.Goals as goal
 

@@ -1,6 +1,5 @@
 use Rattle.std.proofs.Common.{◌≡◌, ◌+◌, ◌<◌, ◌≤◌, ◌++◌, length}
-use Rattle.run_code.specs.Extraction.{bits_at}
-use Rattle.run_code.specs.Places.{places_before}
+use Rattle.run_code.specs.Extraction.{bits_at, places_before}
 use Rattle.run_code.proofs.extraction.put_many.Given as goal
 
 -- the word has a 1; the bits so far, and those at its ones and at those of the words before it, are all bits

@@ -2,8 +2,7 @@ use Rattle.std.proofs.Common.{◌≡◌, ◌+◌, ◌∙◌, ◌++◌, length, L
 use Rattle.std.specs.Int.RustNames.{count_ones}
 use Rattle.bit_vectors.specs.Vectors.{number_bits}
 use Rattle.bit_vectors.proofs.NumberBits.{number_bits-bits_number}
-use Rattle.run_code.specs.Places.{places_before}
-use Rattle.run_code.specs.Extraction.{bits_at}
+use Rattle.run_code.specs.Extraction.{places_before, bits_at}
 use Rattle.run_code.proofs.Gathering.{word_extract, length-word_extract, word_number_below, before_step, before_ones}
 use Rattle.run_code.proofs.extraction.put_moved.Goals as goal
 use Rattle.run_code.proofs.extraction.put_moved.Goals.{After-word-at}

@@ -4,12 +4,11 @@ use Rattle.std.proofs.lemmas.Bool.{true≢false}
 use Rattle.std.specs.Int.RustNames.{count_ones}
 use Rattle.std.proofs.lemmas.Nat.{ones-le}
 use Rattle.std.proofs.lemmas.List.{length-append, length-drop}
-use Rattle.bit_vectors.specs.Eye.{bits_left, ShowsFirst}
-use Rattle.bit_vectors.proofs.FrontWord.{ShowsFirst-after}
+use Rattle.bit_vectors.specs.Reading.{bits_left, ShowsFirst}
+use Rattle.bit_vectors.proofs.WordBytes.{ShowsFirst-after}
 use Rattle.bit_vectors.specs.Words.{word_count}
-use Rattle.bit_vectors.proofs.EyeReading.{MovesOn-refl, MovesOn-then}
-use Rattle.run_code.specs.Places.{places_down}
-use Rattle.run_code.specs.Extraction.{bits_at, extract, SameOutside, parse_filled}
+use Rattle.bit_vectors.proofs.ExactReading.{MovesOn-refl, MovesOn-then}
+use Rattle.run_code.specs.Extraction.{places_down, bits_at, extract, SameOutside, parse_filled}
 use Rattle.run_code.proofs.InverseBits.{length-bits_at}
 use Rattle.run_code.proofs.Ones.{ones_below, places_down_apart, places_down_has, length-places_down, one_or_zero}
 use Rattle.run_code.proofs.Filling.{OnlyAt, IsExact-filled_at, parse_filled-few}

@@ -1,6 +1,5 @@
 use Rattle.std.proofs.Common.{◌≡◌, ◌-◌, ◌*◌, ◌++◌, ◌≤◌, length}
-use Rattle.bit_vectors.specs.Eye.{bits_left, ShowsFirst}
-use Rattle.bit_vectors.specs.Reading.{MovesOn}
+use Rattle.bit_vectors.specs.Reading.{bits_left, ShowsFirst, MovesOn}
 use Rattle.bit_vectors.specs.Words.{word_count}
 use Rattle.run_code.specs.Extraction.{bits_at, SameOutside}
 use Rattle.run_code.proofs.Spreading.{ones_span}

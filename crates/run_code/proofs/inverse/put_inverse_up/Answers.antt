@@ -5,8 +5,7 @@ use Rattle.std.proofs.lemmas.List.{append-nil, length-append, length-reverse}
 use Rattle.bit_vectors.specs.Vectors.{without_bits}
 use Rattle.run_code.specs.Extraction.{bits_at}
 use Rattle.run_code.proofs.Ones.{ones_below}
-use Rattle.run_code.proofs.ExtractedBits.{inverse_is}
-use Rattle.run_code.proofs.InverseBits.{length-bits_at}
+use Rattle.run_code.proofs.InverseBits.{inverse_is, length-bits_at}
 use Rattle.run_code.proofs.Upward.{no_ones_below, without_word, ones_below-most, ones_step_up, upward_step, upward_all}
 use Rattle.run_code.proofs.inverse.put_inverse_up.Goals as goal
 

@@ -1,6 +1,6 @@
 use Rattle.std.proofs.Common.{arith}
 use Rattle.std.proofs.lemmas.Result.{err_from_is_err_and}
-use Rattle.bit_vectors.specs.Eye.{bits_left}
+use Rattle.bit_vectors.specs.Reading.{bits_left}
 use Rattle.run_code.proofs.InverseBits.{inverse_err, inverse_zero, inverse_some, place_moved, filled_word, some_at_start}
 use Rattle.run_code.proofs.inverse.read_inverse.Goals as goal
 

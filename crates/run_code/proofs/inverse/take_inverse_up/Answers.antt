@@ -1,4 +1,4 @@
-use Rattle.bit_vectors.proofs.EyeReading.{fault_by}
+use Rattle.bit_vectors.proofs.ExactReading.{fault_by}
 use Rattle.run_code.specs.Extraction.{IsInverseWord, parse_inverse}
 use Rattle.run_code.proofs.InverseBits.{IsExact-inverse_at, inverse_taken, inverse_within, inverse_one, inverse_wrong, inverse_early}
 use Rattle.run_code.proofs.inverse.take_inverse_up.Goals as goal

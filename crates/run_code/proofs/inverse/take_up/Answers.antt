@@ -3,11 +3,10 @@ use Rattle.std.specs.Prelude.{reverse}
 use Rattle.std.specs.Int.RustNames.{count_ones}
 use Rattle.std.proofs.lemmas.List.{length-append, length-reverse}
 use Rattle.std.proofs.lemmas.Result.{err_from_is_err_and}
-use Rattle.bit_vectors.specs.Eye.{bits_left}
+use Rattle.bit_vectors.specs.Reading.{bits_left}
 use Rattle.bit_vectors.specs.Words.{IsWord}
-use Rattle.bit_vectors.proofs.EyeReading.{MovesOn-refl, MovesOn-then}
-use Rattle.run_code.specs.Places.{places_up}
-use Rattle.run_code.specs.Extraction.{bits_at, bits_up, parse_filled}
+use Rattle.bit_vectors.proofs.ExactReading.{MovesOn-refl, MovesOn-then}
+use Rattle.run_code.specs.Extraction.{places_up, bits_at, bits_up, parse_filled}
 use Rattle.run_code.proofs.Ones.{ones_below, length-ones_from}
 use Rattle.run_code.proofs.Filling.{parse_filled-few}
 use Rattle.run_code.proofs.InverseBits.{length-bits_at, filling_exact, zeros_filling}

@@ -1,7 +1,6 @@
 use Rattle.std.proofs.Common.{◌≡◌, ℕ, ◌*◌, ◌<◌, ◌++◌, false, length, get_or}
 use Rattle.std.specs.Prelude.{reverse}
-use Rattle.bit_vectors.specs.Eye.{bits_left}
-use Rattle.bit_vectors.specs.Reading.{MovesOn}
+use Rattle.bit_vectors.specs.Reading.{bits_left, MovesOn}
 use Rattle.run_code.specs.Extraction.{bits_at}
 use Rattle.run_code.proofs.Ones.{ones_below}
 use Rattle.run_code.proofs.inverse.take_up.Given as goal

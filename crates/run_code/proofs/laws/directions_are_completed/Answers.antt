@@ -1,5 +1,5 @@
 use Rattle.run_code.proofs.InverseBits.{IsExact-inverse_at}
-use Rattle.run_code.proofs.ShortEndings.{last_one}
+use Rattle.run_code.proofs.RunFronts.{last_one}
 use Rattle.run_code.proofs.laws.directions_are_completed.Goals as goal
 
 pub returns-clause-exact : goal.returns-clause-exact

@@ -1,4 +1,4 @@
-use Rattle.run_code.proofs.ExtractedBits.{length-extract, extract_tells, inverse_is}
+use Rattle.run_code.proofs.InverseBits.{length-extract, extract_tells, inverse_is}
 use Rattle.run_code.proofs.laws.extracted_bits.Goals as goal
 
 pub returns-clause-many : goal.returns-clause-many

@@ -1,4 +1,4 @@
-use Rattle.run_code.proofs.EdgeBits.{get_or-edges, a_mask, one_mask}
+use Rattle.run_code.proofs.EdgeWords.{get_or-edges, a_mask, one_mask}
 use Rattle.run_code.proofs.laws.masks_and_edges.Goals as goal
 
 pub returns-clause-neighbour : goal.returns-clause-neighbour

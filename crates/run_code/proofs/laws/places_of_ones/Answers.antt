@@ -1,5 +1,5 @@
 use Rattle.run_code.proofs.Ones.{in_places_up, places_up_has, length-ones_from}
-use Rattle.run_code.proofs.ExtractedBits.{ones_from_rise}
+use Rattle.run_code.proofs.InverseBits.{ones_from_rise}
 use Rattle.run_code.proofs.laws.places_of_ones.Goals as goal
 
 pub returns-clause-ones : goal.returns-clause-ones

@@ -1,8 +1,7 @@
 use Rattle.std.proofs.Common.{[], sym, ◌∙◌}
 use Rattle.std.proofs.lemmas.List.{append-nil}
 use Rattle.run_code.specs.Runs.{run_bits}
-use Rattle.run_code.proofs.RunWords.{run_bits_most}
-use Rattle.run_code.proofs.ExactRuns.{one_run_word}
+use Rattle.run_code.proofs.RunWords.{run_bits_most, one_run_word}
 use Rattle.run_code.proofs.laws.run_words.Goals as goal
 
 pub returns-clause-most : goal.returns-clause-most

@@ -1,6 +1,5 @@
-use Rattle.run_code.proofs.ExactRuns.{IsExact-vector_at}
-use Rattle.run_code.proofs.RunFronts.{begins_next, front_begins, front_is, shortest_ended, shortest_further}
-use Rattle.run_code.proofs.ShortEndings.{run_ended, run_further}
+use Rattle.run_code.proofs.RunWords.{IsExact-vector_at}
+use Rattle.run_code.proofs.RunFronts.{begins_next, front_begins, front_is, shortest_ended, shortest_further, run_ended, run_further}
 use Rattle.run_code.proofs.laws.run_words_are_completed.Goals as goal
 
 pub returns-clause-exact : goal.returns-clause-exact

@@ -1,5 +1,5 @@
 use Rattle.run_code.specs.Runs.{run_bits}
-use Rattle.bit_vectors.proofs.SameWord.{matched, matched_only, matched_fault}
+use Rattle.bit_vectors.proofs.ExactReading.{matched, matched_only, matched_fault}
 use Rattle.run_code.proofs.matching.match_runs.Goals as goal
 
 pub returns-clause-word : goal.returns-clause-word

@@ -1,14 +1,12 @@
 use Rattle.std.proofs.Common.{◌≡◌, ◌-◌, ◌^◌, ◌<◌, ◌≤◌, ◌++◌, ℕ, Bool, List, refl, ap, ◌∙◌, arith, append_assoc}
 use Rattle.std.proofs.lemmas.Result.{err_from_is_err_and}
-use Rattle.bit_vectors.specs.Eye.{EyeState, bits_left}
-use Rattle.bit_vectors.specs.Reading.{MovesOn, parse_word}
+use Rattle.bit_vectors.specs.Reading.{EyeState, bits_left, MovesOn, parse_word}
 use Rattle.bit_vectors.specs.Vectors.{number_bits}
-use Rattle.bit_vectors.proofs.EyeReading.{MovesOn-refl, MovesOn-then}
+use Rattle.bit_vectors.proofs.ExactReading.{MovesOn-refl, MovesOn-then, same_fault, same_more}
 use Rattle.count_code.specs.Code.{count_bits}
 use Rattle.run_code.specs.Runs.{runs_from, run_bits}
 use Rattle.run_code.proofs.Gathering.{no_number}
 use Rattle.run_code.proofs.RunWords.{places_down_fall, runs_from-cons, runs_from-nil}
-use Rattle.bit_vectors.proofs.SameWord.{same_fault, same_more}
 use Rattle.run_code.proofs.matching.match_words.Goals as goal
 use Rattle.run_code.proofs.matching.match_words.Goals.{then-held-gt-MANY_BITS+in_ok-match_word, else-held-gt-MANY_BITS}
 

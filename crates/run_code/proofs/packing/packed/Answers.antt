@@ -1,5 +1,5 @@
 use Rattle.std.proofs.Common.{arith}
-use Rattle.run_code.proofs.Ranks.{full_bit, full_count}
+use Rattle.run_code.proofs.Upward.{full_bit, full_count}
 use Rattle.run_code.proofs.packing.packed.Goals as goal
 
 pub returns-then-at-eq18446744073709551615-clause-bits : goal.returns-then-at-eq18446744073709551615-clause-bits

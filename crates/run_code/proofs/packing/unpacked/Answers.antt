@@ -1,5 +1,5 @@
 use Rattle.std.proofs.Common.{sym}
-use Rattle.run_code.proofs.Ranks.{full_bit}
+use Rattle.run_code.proofs.Upward.{full_bit}
 use Rattle.run_code.proofs.packing.unpacked.Goals as goal
 
 pub returns-then-at-eq18446744073709551615-clause-bits : goal.returns-then-at-eq18446744073709551615-clause-bits

@@ -1,9 +1,9 @@
 use Rattle.std.proofs.Common.{◌≡◌, ◌∙◌, ◌-◌, suc, true, length, arith}
 use Rattle.std.proofs.lemmas.List.{length-replicate, length-set}
 use Rattle.std.proofs.lemmas.Result.{err_from_is_err_and}
-use Rattle.bit_vectors.specs.Eye.{bits_left}
-use Rattle.bit_vectors.proofs.EyeReading.{MovesOn-refl, MovesOn-then}
-use Rattle.run_code.proofs.ExactRuns.{parse_ones-value, parse_ones-end, parse_ones-fault, vector_at_is}
+use Rattle.bit_vectors.specs.Reading.{bits_left}
+use Rattle.bit_vectors.proofs.ExactReading.{MovesOn-refl, MovesOn-then}
+use Rattle.run_code.proofs.RunWords.{parse_ones-value, parse_ones-end, parse_ones-fault, vector_at_is}
 use Rattle.run_code.proofs.runs.read_runs.Goals as goal
 
 pub loop-distance-init : goal.loop-distance-init

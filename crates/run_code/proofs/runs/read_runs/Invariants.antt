@@ -1,6 +1,5 @@
 use Rattle.std.proofs.Common.{◌≡◌, ◌<◌, ◌≤◌, length, ℕ}
-use Rattle.bit_vectors.specs.Eye.{bits_left}
-use Rattle.bit_vectors.specs.Reading.{MovesOn}
+use Rattle.bit_vectors.specs.Reading.{bits_left, MovesOn}
 use Rattle.count_code.specs.Counts.{AreAhead}
 use Rattle.run_code.specs.Runs.{parse_ones, parse_vector}
 use Rattle.run_code.proofs.runs.read_runs.Given as goal

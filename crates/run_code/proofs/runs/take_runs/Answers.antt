@@ -1,7 +1,7 @@
-use Rattle.bit_vectors.proofs.EyeReading.{fault_by}
+use Rattle.bit_vectors.proofs.ExactReading.{fault_by}
 use Rattle.std.proofs.Common.{length}
 use Rattle.run_code.specs.Runs.{IsRunWordOf, parse_vector}
-use Rattle.run_code.proofs.ExactRuns.{IsExact-vector_at, run_taken, run_only}
+use Rattle.run_code.proofs.RunWords.{IsExact-vector_at, run_taken, run_only}
 use Rattle.run_code.proofs.runs.take_runs.Goals as goal
 
 pub returns-clause-word : goal.returns-clause-word

@@ -6,8 +6,7 @@ use Rattle.std.proofs.lemmas.List.{append-nil}
 use Rattle.std.proofs.lemmas.Nat.{and_le_r, ones-le}
 use Rattle.std.proofs.lemmas.Nat.Bits.{shr_and_one, bit_at-lt}
 use Rattle.run_code.proofs.Gathering.{word_extract, ones-lowest}
-use Rattle.run_code.proofs.Upward.{above_small, gathered_up_more, gathered_up_all}
-use Rattle.run_code.proofs.Ranks.{number_up}
+use Rattle.run_code.proofs.Upward.{above_small, gathered_up_more, gathered_up_all, number_up}
 use Rattle.run_code.proofs.words.gathered_up.Goals as goal
 
 pub loop-rest-init : goal.loop-rest-init

@@ -1,5 +1,5 @@
 use Rattle.std.proofs.Common.{arith}
-use Rattle.run_code.proofs.AllAtOnce.{moved_is}
+use Rattle.run_code.proofs.Upward.{moved_is}
 use Rattle.run_code.proofs.words.moved.Goals as goal
 
 pub returns-clause-number : goal.returns-clause-number

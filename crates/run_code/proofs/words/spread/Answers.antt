@@ -1,6 +1,6 @@
 use Rattle.std.proofs.Common.{◌-◌, ◌*◌, ◌%◌, ◌/◌, ◌^◌, bit_and, bit_or, arith, refl}
 use Rattle.run_code.proofs.Spreading.{less_one, lowest_bit, none_left, spread_more_or_none, without_ones, without_others}
-use Rattle.run_code.proofs.AllAtOnce.{spread_is, merged_others}
+use Rattle.run_code.proofs.Upward.{spread_is, merged_others}
 use Rattle.run_code.proofs.words.spread.Goals as goal
 
 pub loop-rest-init : goal.loop-rest-init

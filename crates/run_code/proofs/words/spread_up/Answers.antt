@@ -3,9 +3,8 @@ use Rattle.std.proofs.lemmas.Nat.{and_le_r}
 use Rattle.bit_vectors.specs.Vectors.{number_bits}
 use Rattle.run_code.proofs.Gathering.{word_extract}
 use Rattle.run_code.proofs.Spreading.{step_inside, step_clear, step_others, step_off, step_bit}
-use Rattle.run_code.proofs.Upward.{bits_up_is, spread_up_bits, none_left_up}
+use Rattle.run_code.proofs.Upward.{bits_up_is, spread_up_bits, none_left_up, number_up}
 use Rattle.std.proofs.lemmas.Nat.Bits.{bit_at_and, bit_at-lt}
-use Rattle.run_code.proofs.Ranks.{number_up}
 use Rattle.run_code.proofs.words.spread_up.Goals as goal
 
 pub loop-rest-preserved : goal.loop-rest-preserved

@@ -2,11 +2,9 @@ use Rattle.std.proofs.Common.{◌≡◌, All, cond, get_or, refl, rules, subst, 
 use Rattle.std.proofs.lemmas.List.{get_or_default}
 use Rattle.std.proofs.lemmas.List.Elements.{All-get_or, All-push}
 use Rattle.side_tables.specs.Ranks.{flag_claim, flag_in}
-use Rattle.side_tables.specs.Rows.{IsFlagRow}
-use Rattle.side_tables.specs.Spans.{IsSpan}
+use Rattle.side_tables.specs.Rows.{IsFlagRow, IsSpan}
 use Rattle.side_tables.specs.declared.claims.Claim.{Claim}
-use Rattle.side_tables.proofs.ClaimLists.{AreClaims-more}
-use Rattle.side_tables.proofs.Places.{no_row}
+use Rattle.side_tables.proofs.Claimed.{AreClaims-more, no_row}
 use Rattle.side_tables.proofs.claims.flag_claims.Goals as goal
 
 pub loop-row-preserved : goal.loop-row-preserved

@@ -1,10 +1,10 @@
 use Rattle.std.proofs.Common.{◌+◌, All, ap, subst, sym}
 use Rattle.std.proofs.lemmas.List.Elements.{All-get_or, All-push}
 use Rattle.side_tables.specs.Ranks.{row_claim}
-use Rattle.side_tables.specs.Spans.{IsSpan}
+use Rattle.side_tables.specs.Rows.{IsSpan}
 use Rattle.side_tables.specs.declared.claims.Claim.{Claim}
 use Rattle.side_tables.specs.declared.span.Span.{Span}
-use Rattle.side_tables.proofs.ClaimLists.{AreClaims-more}
+use Rattle.side_tables.proofs.Claimed.{AreClaims-more}
 use Rattle.side_tables.proofs.claims.row_claims.Goals as goal
 
 pub loop-place-preserved : goal.loop-place-preserved

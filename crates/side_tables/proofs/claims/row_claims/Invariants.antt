@@ -1,5 +1,5 @@
 use Rattle.std.proofs.Common.{All, take}
-use Rattle.side_tables.specs.Spans.{IsSpan}
+use Rattle.side_tables.specs.Rows.{IsSpan}
 use Rattle.side_tables.specs.Ranks.{AreClaims, row_claim}
 use Rattle.side_tables.specs.declared.claims.Claim.{Claim}
 use Rattle.side_tables.proofs.claims.row_claims.Given as goal

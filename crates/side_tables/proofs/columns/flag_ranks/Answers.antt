@@ -1,5 +1,5 @@
 use Rattle.std.proofs.lemmas.Result.{IfOk-weaker}
-use Rattle.side_tables.proofs.LastRows.{AreFlagRanks-from}
+use Rattle.side_tables.proofs.Claimed.{AreFlagRanks-from}
 use Rattle.side_tables.proofs.columns.flag_ranks.Goals as goal
 
 pub returns : goal.returns

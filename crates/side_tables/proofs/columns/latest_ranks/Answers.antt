@@ -1,5 +1,5 @@
 use Rattle.std.proofs.lemmas.Result.{IfOk-weaker}
-use Rattle.side_tables.proofs.LastRows.{AreLatestRanks-from}
+use Rattle.side_tables.proofs.Claimed.{AreLatestRanks-from}
 use Rattle.side_tables.proofs.columns.latest_ranks.Goals as goal
 
 pub returns : goal.returns

@@ -1,5 +1,5 @@
 use Rattle.std.proofs.Common.{sym, ◌∙◌, rules}
-use Rattle.side_tables.proofs.Numbers.{number_of-refused}
+use Rattle.side_tables.proofs.RowKinds.{number_of-refused}
 use Rattle.side_tables.proofs.decimal.number_in_text.Goals as goal
 
 pub returns-in_err-value-clause-number : goal.returns-in_err-value-clause-number

@@ -1,5 +1,5 @@
 use Rattle.std.proofs.Common.{sym}
-use Rattle.side_tables.proofs.Numbers.{number_of-no_text}
+use Rattle.side_tables.proofs.RowKinds.{number_of-no_text}
 use Rattle.side_tables.proofs.decimal.wide_number.Goals as goal
 
 pub returns-in-Err-clause-number : goal.returns-in-Err-clause-number

@@ -1,5 +1,5 @@
 use Rattle.side_tables.specs.Texts.{records_of}
-use Rattle.side_tables.proofs.RowBounds.{robust_of-most}
+use Rattle.side_tables.proofs.RowKinds.{robust_of-most}
 use Rattle.side_tables.proofs.laws.robustness_of_texts.Goals as goal
 
 pub returns : goal.returns

@@ -1,4 +1,4 @@
-use Rattle.side_tables.specs.Spans.{names}
+use Rattle.side_tables.specs.Rows.{names}
 use Rattle.side_tables.proofs.Claimed.{HasReached-more, TakesRank-then}
 use Rattle.side_tables.proofs.ranks.take_all.Goals as goal
 

@@ -1,6 +1,6 @@
 use Rattle.std.proofs.Common.{◌≡◌, ◌-◌, length}
 use Rattle.side_tables.specs.Ranks.{RunsHold, TakesRank}
-use Rattle.side_tables.specs.Spans.{names}
+use Rattle.side_tables.specs.Rows.{names}
 use Rattle.side_tables.proofs.Claimed.{HasReached}
 use Rattle.side_tables.proofs.ranks.take_all.Given as goal
 

@@ -3,8 +3,7 @@ use Rattle.std.proofs.lemmas.Bool.{false≢true}
 use Rattle.std.specs.Int.{to_be_bytes, from_be_bytes}
 use Rattle.state_bytes.specs.Crc.{crc32}
 use Rattle.state_bytes.specs.Frames.{IsFrame}
-use Rattle.state_bytes.proofs.Parts.{bytes_drop, bytes_take}
-use Rattle.state_bytes.proofs.Frames.{about_is, four_fit, frame_made, frame_magic, magic_bytes, frame_size, frame_sum, other_of}
+use Rattle.state_bytes.proofs.Parts.{bytes_drop, bytes_take, about_is, four_fit, frame_made, frame_magic, magic_bytes, frame_size, frame_sum, other_of}
 use Rattle.state_bytes.proofs.frame.body_of.Goals as goal
 
 pub returns-then-bytes-lt-FRAME_BYTES-clause-none :

@@ -1,4 +1,4 @@
-use Rattle.state_bytes.proofs.Frames.{frames_agree}
+use Rattle.state_bytes.proofs.Parts.{frames_agree}
 use Rattle.state_bytes.proofs.laws.states_are_of_one_kind.Goals as goal
 
 pub returns : goal.returns

@@ -1,6 +1,6 @@
 use Rattle.std.proofs.Common.{◌≡◌, ℕ, refl, ap, ◌+◌, ◌-◌, List, [], ◌∷◌, length, arith, sym, ◌∙◌}
 use Rattle.bit_vectors.specs.Vectors.{byte_count}
-use Rattle.bit_vectors.proofs.ByteBits.{length-vector_bytes}
+use Rattle.bit_vectors.proofs.NumberBits.{length-vector_bytes}
 use Rattle.state_bytes.specs.Parts.{Puts, has_one}
 use Rattle.std.proofs.lemmas.Bool.{false≢true}
 use Rattle.state_bytes.proofs.Parts.{Puts-part, Puts-then, has_one_or, vector_part-one, vector_part-zero}

@@ -1,6 +1,6 @@
 use Rattle.std.proofs.Common.{◌≡◌, ℕ, ◌∷◌, true, Bool, List, length, take, ap, arith, sym, refl, ◌∙◌}
 use Rattle.bit_vectors.specs.Vectors.{byte_count, vector_bytes}
-use Rattle.bit_vectors.proofs.ByteBits.{take-bits_of-vector_bytes}
+use Rattle.bit_vectors.proofs.NumberBits.{take-bits_of-vector_bytes}
 use Rattle.state_bytes.specs.Parts.{BeginsVector, BeginsVectorIf}
 use Rattle.state_bytes.proofs.Parts.{is_set, is_unset, no_spare, set_back, set_front, set_size, starts}
 use Rattle.state_bytes.proofs.vector.take_vector.Goals as goal

@@ -7,8 +7,7 @@ use Rattle.side_tables.specs.Rows.{IsCopyRow, copies_of}
 use Rattle.flight_chain.specs.Recordings.{recording_of}
 use Rattle.trial_chain.specs.Draws.{drawn, next_number, generator_at}
 use Rattle.trial_chain.specs.Trials.{copies_by, next_input, rows_for, trial_copies, trial_input, trial_inputs}
-use Rattle.trial_chain.proofs.Recordings.{recording-more}
-use Rattle.trial_chain.proofs.Scripts.{script-more, script-start}
+use Rattle.trial_chain.proofs.TrialHistories.{recording-more, script-more, script-start}
 use Rattle.trial_chain.proofs.generated.generate.Goals as goal
 
 pub packets-init : goal.packets-init

@@ -1,8 +1,7 @@
 use Rattle.std.proofs.Common.{◌≡◌}
 use Rattle.std.proofs.lemmas.Result.{IfOk-at_ok}
-use Rattle.trial_chain.specs.RunDesk.{run_meanings, run_opened}
-use Rattle.trial_chain.specs.Stages.{recording_name, store_name}
-use Rattle.trial_chain.proofs.HeldOutputs.{run_opened-own}
+use Rattle.trial_chain.specs.Stages.{run_meanings, run_opened, recording_name, store_name}
+use Rattle.trial_chain.proofs.TrialHeld.{run_opened-own}
 use Rattle.trial_chain.proofs.stages.compress.Goals as goal
 
 pub compress_on-done-requires-clause-opened : goal.compress_on-done-requires-clause-opened

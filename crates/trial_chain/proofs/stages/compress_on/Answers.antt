@@ -1,9 +1,8 @@
 use Rattle.std.proofs.Common.{refl}
 use Rattle.std.proofs.lemmas.Result.{on_ok_weaker}
 use Rattle.flight_chain.specs.Compressing.{compress_course}
-use Rattle.trial_chain.specs.RunDesk.{run_meanings}
-use Rattle.trial_chain.specs.Stages.{recording_name, store_name}
-use Rattle.trial_chain.proofs.HeldOutputs.{kept_output}
+use Rattle.trial_chain.specs.Stages.{run_meanings, recording_name, store_name}
+use Rattle.trial_chain.proofs.TrialHeld.{kept_output}
 use Rattle.trial_chain.proofs.stages.compress_on.Goals as goal
 
 pub returns : goal.returns

@@ -5,9 +5,8 @@ use Rattle.desk_ports.specs.Meanings.{kept_at}
 use Rattle.side_tables.specs.Rows.{copies_of}
 use Rattle.loss_player.specs.Played.{store_numbers}
 use Rattle.loss_player.specs.Playing.{PlayerState, play_course}
-use Rattle.trial_chain.specs.RunDesk.{run_meanings, run_reported}
-use Rattle.trial_chain.specs.Stages.{play_name, played_name, store_name, with_outputs}
-use Rattle.trial_chain.proofs.HeldOutputs.{answer_ended, held_ended, held_reported, run_reported-own}
+use Rattle.trial_chain.specs.Stages.{run_meanings, run_reported, play_name, played_name, store_name, with_outputs}
+use Rattle.trial_chain.proofs.TrialHeld.{answer_ended, held_ended, held_reported, run_reported-own}
 use Rattle.trial_chain.proofs.stages.play.Goals as goal
 
 pub play_on-played-requires-clause-opened : goal.play_on-played-requires-clause-opened

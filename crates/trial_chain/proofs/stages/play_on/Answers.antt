@@ -3,9 +3,8 @@ use Rattle.desk_ports.specs.Meanings.{Meanings, kept_at}
 use Rattle.desk_ports.proofs.Courses.{Finishes-told}
 use Rattle.side_tables.specs.Rows.{copies_of}
 use Rattle.loss_player.specs.Playing.{play_course, play_work}
-use Rattle.trial_chain.specs.RunDesk.{run_meanings}
-use Rattle.trial_chain.specs.Stages.{play_name, played_name, store_name}
-use Rattle.trial_chain.proofs.HeldOutputs.{kept_outputs}
+use Rattle.trial_chain.specs.Stages.{run_meanings, play_name, played_name, store_name}
+use Rattle.trial_chain.proofs.TrialHeld.{kept_outputs}
 use Rattle.trial_chain.proofs.stages.play_on.Goals as goal
 
 pub returns-clause-held : goal.returns-clause-held

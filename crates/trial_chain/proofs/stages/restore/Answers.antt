@@ -4,9 +4,8 @@ use Rattle.desk_ports.specs.Courses.{owed, texts_of}
 use Rattle.desk_ports.specs.Meanings.{kept_at}
 use Rattle.ground_chain.specs.Report.{restored_of}
 use Rattle.ground_chain.specs.Restoring.{RestorerState, restore_course, store_run}
-use Rattle.trial_chain.specs.RunDesk.{HoldsJust, run_meanings, run_reported}
-use Rattle.trial_chain.specs.Stages.{played_name, report_name, restored_name, with_outputs}
-use Rattle.trial_chain.proofs.HeldOutputs.{answer_ended, held_ended, held_reported, run_reported-own}
+use Rattle.trial_chain.specs.Stages.{HoldsJust, run_meanings, run_reported, played_name, report_name, restored_name, with_outputs}
+use Rattle.trial_chain.proofs.TrialHeld.{answer_ended, held_ended, held_reported, run_reported-own}
 use Rattle.trial_chain.proofs.stages.restore.Goals as goal
 
 pub restore_on-restored-requires-clause-opened : goal.restore_on-restored-requires-clause-opened

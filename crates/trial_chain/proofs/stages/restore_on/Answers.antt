@@ -2,9 +2,8 @@ use Rattle.std.proofs.Common.{refl, ap}
 use Rattle.desk_ports.specs.Meanings.{Meanings, kept_at}
 use Rattle.desk_ports.proofs.Courses.{Finishes-told}
 use Rattle.ground_chain.specs.Restoring.{restore_course, restore_work}
-use Rattle.trial_chain.specs.RunDesk.{run_meanings}
-use Rattle.trial_chain.specs.Stages.{played_name, report_name, restored_name}
-use Rattle.trial_chain.proofs.HeldOutputs.{kept_outputs}
+use Rattle.trial_chain.specs.Stages.{run_meanings, played_name, report_name, restored_name}
+use Rattle.trial_chain.proofs.TrialHeld.{kept_outputs}
 use Rattle.trial_chain.proofs.stages.restore_on.Goals as goal
 
 pub returns-clause-held : goal.returns-clause-held

@@ -2,7 +2,7 @@ use Rattle.std.proofs.Common.{true, length, take, drop, ap, sym, refl, ◌∙◌
 use Rattle.std.specs.List.{Contains}
 use Rattle.std.proofs.lemmas.Bool.{false≢true}
 use Rattle.bit_vectors.specs.Vectors.{bits_of, vector_bytes}
-use Rattle.bit_vectors.proofs.ByteBits.{stored_is}
+use Rattle.bit_vectors.proofs.NumberBits.{stored_is}
 use Rattle.bit_vectors.proofs.Keeping.{holds, Becomes, Becomes-load, words_become, vector_becomes}
 use Rattle.bit_vectors.proofs.bits.Bits.load.Goals as goal
 use Rattle.bit_vectors.proofs.bits.Bits.load.Goals.{After-load_words}

@@ -1,9 +1,9 @@
 use Rattle.std.proofs.Common.{◌≡◌, ◌+◌, ◌-◌, ◌*◌, ◌/◌, length, drop, subst, ap, arith}
 use Rattle.std.proofs.lemmas.List.{length-drop}
 use Rattle.bit_vectors.specs.Vectors.{bits_of}
-use Rattle.bit_vectors.specs.Eye.{EyeState, bits_left, Shows}
-use Rattle.bit_vectors.proofs.ByteBits.{length-bits_of}
-use Rattle.bit_vectors.proofs.FrontWord.{Shows-from, Shows-drop}
+use Rattle.bit_vectors.specs.Reading.{EyeState, bits_left, Shows}
+use Rattle.bit_vectors.proofs.NumberBits.{length-bits_of}
+use Rattle.bit_vectors.proofs.WordBytes.{Shows-from, Shows-drop}
 use Rattle.bit_vectors.proofs.eye.BitEye.ahead.Goals as goal
 use Rattle.bit_vectors.proofs.eye.BitEye.ahead.Goals.{Else-self-last}
 

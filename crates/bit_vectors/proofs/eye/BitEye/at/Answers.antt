@@ -1,5 +1,5 @@
 use Rattle.std.proofs.Common.{arith}
-use Rattle.bit_vectors.proofs.ByteBits.{length-bits_of}
+use Rattle.bit_vectors.proofs.NumberBits.{length-bits_of}
 use Rattle.bit_vectors.proofs.eye.BitEye.at.Goals as goal
 
 pub returns-clause-within : goal.returns-clause-within

@@ -4,10 +4,9 @@ use Rattle.std.proofs.lemmas.List.{length-take}
 use Rattle.std.proofs.lemmas.Nat.{one_shl, pow_pos, shr_below}
 use Rattle.std.proofs.Math.Nat.{mod-eq_of_lt}
 use Rattle.bit_vectors.specs.Vectors.{number_bits, bits_number}
-use Rattle.bit_vectors.specs.Eye.{bits_left}
-use Rattle.bit_vectors.proofs.NumberBits.{length-number_bits, bits_number-number_bits}
-use Rattle.bit_vectors.proofs.Numbers.{number_bits-mod}
-use Rattle.bit_vectors.proofs.FrontWord.{shown_front}
+use Rattle.bit_vectors.specs.Reading.{bits_left}
+use Rattle.bit_vectors.proofs.NumberBits.{length-number_bits, bits_number-number_bits, number_bits-mod}
+use Rattle.bit_vectors.proofs.WordBytes.{shown_front}
 use Rattle.bit_vectors.proofs.eye.BitEye.comes_next.Goals as goal
 use Rattle.bit_vectors.proofs.eye.BitEye.comes_next.Goals.{After-from}
 

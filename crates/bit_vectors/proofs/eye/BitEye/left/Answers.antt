@@ -1,6 +1,6 @@
 use Rattle.std.proofs.Common.{length, ap, arith}
-use Rattle.bit_vectors.specs.Eye.{EyeState}
-use Rattle.bit_vectors.proofs.ByteBits.{length-bits_of}
+use Rattle.bit_vectors.specs.Reading.{EyeState}
+use Rattle.bit_vectors.proofs.NumberBits.{length-bits_of}
 use Rattle.bit_vectors.proofs.eye.BitEye.left.Goals as goal
 
 pub overflow_sub-result : goal.overflow_sub-result

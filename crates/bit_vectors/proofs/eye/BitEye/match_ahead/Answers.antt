@@ -1,10 +1,8 @@
 use Rattle.std.proofs.Common.{◌≡◌, ◌-◌, take, refl, sym, ap, ◌∙◌, arith}
 use Rattle.bit_vectors.specs.Vectors.{number_bits}
-use Rattle.bit_vectors.specs.Eye.{bits_left}
-use Rattle.bit_vectors.specs.Reading.{parse_word}
-use Rattle.bit_vectors.proofs.ExactReading.{IsExact-next}
-use Rattle.bit_vectors.proofs.FrontWord.{shown_front}
-use Rattle.bit_vectors.proofs.SameWord.{IsExact-same_at}
+use Rattle.bit_vectors.specs.Reading.{bits_left, parse_word}
+use Rattle.bit_vectors.proofs.ExactReading.{IsExact-next, IsExact-same_at}
+use Rattle.bit_vectors.proofs.WordBytes.{shown_front}
 use Rattle.bit_vectors.proofs.eye.BitEye.match_ahead.Goals as goal
 
 pub returns-then-high_bits-value-clause-reading : goal.returns-then-high_bits-value-clause-reading

@@ -2,10 +2,9 @@ use Rattle.std.proofs.Common.{◌≡◌, ℕ, ◌+◌, ◌-◌, ◌<◌, ◌/◌
 use Rattle.std.proofs.lemmas.Nat.Bits.{shr_and_one}
 use Rattle.std.proofs.lemmas.Result.{err_from_is_err_and}
 use Rattle.bit_vectors.specs.Vectors.{number_bits}
-use Rattle.bit_vectors.specs.Eye.{bits_left}
+use Rattle.bit_vectors.specs.Reading.{bits_left}
 use Rattle.bit_vectors.proofs.NumberBits.{number_bits-more}
-use Rattle.bit_vectors.proofs.EyeReading.{MovesOn-then}
-use Rattle.bit_vectors.proofs.SameWord.{parse_word-none, parse_word-more, parse_word-fault}
+use Rattle.bit_vectors.proofs.ExactReading.{MovesOn-then, parse_word-none, parse_word-more, parse_word-fault}
 use Rattle.bit_vectors.proofs.eye.BitEye.match_bits.Goals as goal
 
 -- the bit of the next weight, and the bits below it

@@ -1,7 +1,6 @@
 use Rattle.std.proofs.Common.{◌≡◌}
 use Rattle.bit_vectors.specs.Vectors.{number_bits}
-use Rattle.bit_vectors.specs.Eye.{bits_left}
-use Rattle.bit_vectors.specs.Reading.{MovesOn, parse_word}
+use Rattle.bit_vectors.specs.Reading.{bits_left, MovesOn, parse_word}
 use Rattle.bit_vectors.proofs.eye.BitEye.match_bits.Given as goal
 
 -- matching the bits of lower weight gives what matching from the start gives

@@ -1,4 +1,4 @@
-use Rattle.bit_vectors.proofs.SameWord.{matched, matched_only, matched_fault}
+use Rattle.bit_vectors.proofs.ExactReading.{matched, matched_only, matched_fault}
 use Rattle.bit_vectors.specs.Vectors.{number_bits}
 use Rattle.bit_vectors.proofs.eye.BitEye.match_word.Goals as goal
 

@@ -1,8 +1,8 @@
 use Rattle.std.proofs.Common.{◌≡◌, ◌≤◌, ◌+◌, ◌*◌, ℕ, List, length, drop, ap, arith}
 use Rattle.std.proofs.lemmas.List.{length-drop}
 use Rattle.bit_vectors.specs.Vectors.{bits_of}
-use Rattle.bit_vectors.specs.Eye.{EyeState}
-use Rattle.bit_vectors.proofs.ByteBits.{length-bits_of}
+use Rattle.bit_vectors.specs.Reading.{EyeState}
+use Rattle.bit_vectors.proofs.NumberBits.{length-bits_of}
 use Rattle.bit_vectors.proofs.eye.BitEye.pass.Goals as goal
 
 -- the place after them is within the bytes

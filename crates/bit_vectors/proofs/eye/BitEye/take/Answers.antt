@@ -1,8 +1,8 @@
 use Rattle.std.proofs.Common.{◌<◌, length, false, ap, arith}
 use Rattle.std.proofs.lemmas.List.{drop_more}
 use Rattle.bit_vectors.specs.Vectors.{bits_of}
-use Rattle.bit_vectors.specs.Eye.{EyeState}
-use Rattle.bit_vectors.proofs.ByteBits.{length-bits_of}
+use Rattle.bit_vectors.specs.Reading.{EyeState}
+use Rattle.bit_vectors.proofs.NumberBits.{length-bits_of}
 use Rattle.bit_vectors.proofs.eye.BitEye.take.Goals as goal
 
 pub bit_in-bit-requires : goal.bit_in-bit-requires

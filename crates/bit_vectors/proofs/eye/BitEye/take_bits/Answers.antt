@@ -1,6 +1,6 @@
 use Rattle.std.proofs.Common.{◌≡◌, length, take, ap, ◌∙◌, arith}
 use Rattle.std.proofs.lemmas.List.{append-nil, drop_all}
-use Rattle.bit_vectors.specs.Eye.{bits_left}
+use Rattle.bit_vectors.specs.Reading.{bits_left}
 use Rattle.bit_vectors.proofs.FrontReading.{parse_front-enough, parse_front-short}
 use Rattle.bit_vectors.proofs.eye.BitEye.take_bits.Goals as goal
 

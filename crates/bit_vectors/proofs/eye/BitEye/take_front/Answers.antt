@@ -1,7 +1,7 @@
 use Rattle.std.proofs.Common.{◌≡◌, ◌*◌, ◌/◌, ◌%◌, drop, ◌∙◌, arith}
-use Rattle.bit_vectors.specs.Eye.{bits_left, Shows}
+use Rattle.bit_vectors.specs.Reading.{bits_left, Shows}
 use Rattle.bit_vectors.proofs.FrontReading.{front_is}
-use Rattle.bit_vectors.proofs.WordParts.{places_front, places_others}
+use Rattle.bit_vectors.proofs.WordBytes.{places_front, places_others}
 use Rattle.bit_vectors.proofs.eye.BitEye.take_front.Goals as goal
 
 pub returns-then-rest-eq0-clause-bits : goal.returns-then-rest-eq0-clause-bits

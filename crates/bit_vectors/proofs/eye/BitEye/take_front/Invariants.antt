@@ -1,5 +1,5 @@
 use Rattle.std.proofs.Common.{◌≡◌, ℕ, ◌+◌, ◌*◌, ◌<◌, ◌≤◌, false, length, get_or, drop}
-use Rattle.bit_vectors.specs.Eye.{bits_left}
+use Rattle.bit_vectors.specs.Reading.{bits_left}
 use Rattle.bit_vectors.proofs.eye.BitEye.take_front.Given as goal
 
 -- so far, whole words were taken

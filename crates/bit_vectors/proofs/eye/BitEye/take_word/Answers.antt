@@ -2,9 +2,9 @@ use Rattle.std.proofs.Common.{◌≡◌, ◌+◌, ◌-◌, ◌<◌, ◌^◌, len
 use Rattle.std.proofs.lemmas.List.{take-append-drop}
 use Rattle.std.proofs.lemmas.Nat.{shr_below}
 use Rattle.bit_vectors.specs.Vectors.{number_bits}
-use Rattle.bit_vectors.specs.Eye.{bits_left}
-use Rattle.bit_vectors.proofs.FrontWord.{shown_front}
-use Rattle.bit_vectors.proofs.NumberReading.{parse_number-short, parse_number-enough}
+use Rattle.bit_vectors.specs.Reading.{bits_left}
+use Rattle.bit_vectors.proofs.WordBytes.{shown_front}
+use Rattle.bit_vectors.proofs.NumberBits.{parse_number-short, parse_number-enough}
 use Rattle.bit_vectors.proofs.eye.BitEye.take_word.Goals as goal
 use Rattle.bit_vectors.proofs.eye.BitEye.take_word.Goals.{After-high_bits-word}
 

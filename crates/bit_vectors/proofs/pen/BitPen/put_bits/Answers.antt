@@ -2,7 +2,7 @@ use Rattle.std.proofs.Common.{◌≡◌, ◌+◌, ◌-◌, ◌*◌, ◌/◌, ◌
 use Rattle.std.proofs.lemmas.List.{take_all}
 use Rattle.bit_vectors.specs.Vectors.{number_bits}
 use Rattle.bit_vectors.specs.Words.{IsWord}
-use Rattle.bit_vectors.proofs.WordParts.{word_part, high_below}
+use Rattle.bit_vectors.proofs.WordBytes.{word_part, high_below}
 use Rattle.bit_vectors.proofs.pen.BitPen.put_bits.Goals as goal
 use Rattle.bit_vectors.proofs.pen.BitPen.put_bits.Goals.{After-word-2}
 

@@ -1,7 +1,7 @@
 use Rattle.std.proofs.Common.{◌≡◌, ◌+◌, ◌-◌, ◌*◌, ◌/◌, ◌^◌, ◌++◌, length, take, drop, ap, ◌∙◌, append_assoc, subst, arith}
 use Rattle.std.proofs.lemmas.List.{length-append, length-take, take_all, take_rest}
 use Rattle.std.specs.Vec.{vec_capacity}
-use Rattle.bit_vectors.specs.Eye.{Shows}
+use Rattle.bit_vectors.specs.Reading.{Shows}
 use Rattle.bit_vectors.specs.Vectors.{bits_of, number_bits}
 use Rattle.bit_vectors.specs.Pen.{PenState, written_bits}
 use Rattle.bit_vectors.proofs.PenBits.{length-written, low_below, next_word, words_taken}

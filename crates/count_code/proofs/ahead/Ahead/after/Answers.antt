@@ -1,6 +1,6 @@
 use Rattle.std.proofs.Common.{◌≡◌, ◌%◌, arith}
 use Rattle.std.proofs.lemmas.List.{length-drop}
-use Rattle.bit_vectors.proofs.FrontWord.{ShowsFirst-after}
+use Rattle.bit_vectors.proofs.WordBytes.{ShowsFirst-after}
 use Rattle.count_code.proofs.ahead.Ahead.after.Goals as goal
 
 pub returns : goal.returns

@@ -1,6 +1,6 @@
 use Rattle.std.proofs.Common.{◌≡◌, ◌-◌, ◌/◌, ◌^◌, ◌≤◌, ℕ, Bool, List, take, sym, ap, ◌∙◌, arith}
 use Rattle.bit_vectors.specs.Vectors.{number_bits}
-use Rattle.bit_vectors.proofs.FrontWord.{shown_first}
+use Rattle.bit_vectors.proofs.WordBytes.{shown_first}
 use Rattle.count_code.specs.Counts.{AreAhead}
 use Rattle.count_code.specs.declared.ahead.Ahead.{Ahead}
 use Rattle.count_code.proofs.CountWords.{count_bits-one, zero_in_one, two_in_two}

@@ -1,7 +1,7 @@
 use Rattle.std.proofs.Common.{refl, ap, ◌∙◌, length, length-append, arith}
 use Rattle.desk_ports.specs.declared.desk.Inlet.TheVariants as inlet
-use Rattle.desk_ports.proofs.Transfers.{Moves-ready}
-use Rattle.desk_ports.proofs.ReadAheads.{ReadsOn-none, ReadsOn-then}
+use Rattle.desk_ports.proofs.Courses.{Moves-ready}
+use Rattle.desk_ports.proofs.Desks.{ReadsOn-none, ReadsOn-then}
 use Rattle.desk_ports.proofs.ahead.ReadAhead.hold.Goals as goal
 
 pub loop-self-init : goal.loop-self-init

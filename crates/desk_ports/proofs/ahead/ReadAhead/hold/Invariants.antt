@@ -1,7 +1,6 @@
 use Rattle.std.proofs.Common.{◌≡◌, ◌-◌, ◌≤◌, length}
 use Rattle.desk_ports.specs.declared.desk.Inlet.TheVariants as inlet
-use Rattle.desk_ports.specs.Meanings.{IsReadyIn}
-use Rattle.desk_ports.specs.ReadAhead.{ReadsOn}
+use Rattle.desk_ports.specs.Meanings.{IsReadyIn, ReadsOn}
 use Rattle.desk_ports.proofs.ahead.ReadAhead.hold.Given as goal
 
 -- more bytes were read, and nothing else happened; nothing at all if enough of them were ahead

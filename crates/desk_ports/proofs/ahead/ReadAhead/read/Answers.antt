@@ -2,8 +2,8 @@ use Rattle.std.proofs.Common.{◌≡◌, ◌+◌, ◌-◌, ◌≤◌, ◌++◌, 
 use Rattle.std.proofs.lemmas.List.{with_items_is}
 use Rattle.desk_ports.specs.declared.desk.Inlet.TheVariants as inlet
 use Rattle.desk_ports.specs.Meanings.{Moves}
-use Rattle.desk_ports.proofs.Transfers.{Moves-none}
-use Rattle.desk_ports.proofs.ReadAheads.{read_after}
+use Rattle.desk_ports.proofs.Courses.{Moves-none}
+use Rattle.desk_ports.proofs.Desks.{read_after}
 use Rattle.desk_ports.proofs.ahead.ReadAhead.read.Goals as goal
 
 pub returns-in_err-moved-clause-read : goal.returns-in_err-moved-clause-read

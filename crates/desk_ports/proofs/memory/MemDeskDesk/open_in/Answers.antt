@@ -1,6 +1,6 @@
 use Rattle.std.proofs.Common.{sym, subst, rules}
 use Rattle.desk_ports.specs.MemDesk.{IsSound}
-use Rattle.desk_ports.proofs.Cursors.{IsSound_on}
+use Rattle.desk_ports.proofs.Desks.{IsSound_on}
 use Rattle.desk_ports.proofs.memory.MemDeskDesk.open_in.Goals as goal
 
 pub invariant_of-self-2 : goal.invariant_of-self-2

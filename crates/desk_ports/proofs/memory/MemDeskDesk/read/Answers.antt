@@ -6,7 +6,7 @@ use Rattle.desk_ports.specs.declared.memory.Cursor.TheVariants as cursor
 use Rattle.desk_ports.specs.MemState.{MemState, called, mem_counts, mem_meanings}
 use Rattle.desk_ports.specs.MemDesk.{state_of, IsInEntry, IsSound}
 use Rattle.desk_ports.specs.Meanings.{Moves}
-use Rattle.desk_ports.proofs.Cursors.{Moves_on, IsInEntry_at, IsSound_on, capped_le}
+use Rattle.desk_ports.proofs.Desks.{Moves_on, IsInEntry_at, IsSound_on, capped_le}
 use Rattle.desk_ports.proofs.memory.MemDeskDesk.read.Goals as goal
 
 pub returns-clause-moved : goal.returns-clause-moved

@@ -1,5 +1,5 @@
 use Rattle.std.proofs.Common.{Some, cond, option_copied, sym, ap, ◌∙◌}
-use Rattle.desk_ports.proofs.Names.{first_of_none, first_so_far}
+use Rattle.desk_ports.proofs.Logs.{first_of_none, first_so_far}
 use Rattle.desk_ports.proofs.memory.names.name_from.Goals as goal
 use Rattle.desk_ports.proofs.memory.names.name_from.Goals.{then-is_between, else-is_between}
 

@@ -2,7 +2,7 @@ use Rattle.std.proofs.Common.{not, ap, ◌∙◌, rules}
 use Rattle.std.proofs.lemmas.Fn.{filter_same}
 use Rattle.std.specs.Str.{bytes_eq}
 use Rattle.desk_ports.specs.Log.{kept_of}
-use Rattle.desk_ports.proofs.Names.{kept_of-removed}
+use Rattle.desk_ports.proofs.Logs.{kept_of-removed}
 use Rattle.desk_ports.proofs.memory.names.remove.Goals as goal
 
 pub returns : goal.returns

@@ -1,5 +1,5 @@
 use Rattle.std.proofs.Common.{sym, ◌∙◌}
-use Rattle.desk_ports.proofs.KeptInputs.{main_kept, side_kept, none_kept}
+use Rattle.desk_ports.proofs.Desks.{main_kept, side_kept, none_kept}
 use Rattle.desk_ports.proofs.quiet.Inputs.under.Goals as goal
 
 pub returns-then-eq : goal.returns-then-eq

@@ -1,6 +1,6 @@
 use Rattle.std.proofs.Common.{Some, ap}
 use Rattle.std.proofs.lemmas.Cmp.{nat_list_eq_equiv}
-use Rattle.desk_ports.proofs.KeptInputs.{main_kept, side_kept, none_kept, differ}
+use Rattle.desk_ports.proofs.Desks.{main_kept, side_kept, none_kept, differ}
 use Rattle.desk_ports.proofs.quiet.QuietDesk.new.Goals as goal
 
 pub returns-clause-main : goal.returns-clause-main

@@ -1,14 +1,13 @@
 use Rattle.std.proofs.Common.{◌≡◌, ◌%◌, length, refl, ap, sym, ◌∙◌, subst}
 use Rattle.bit_vectors.specs.Vectors.{vector_bytes}
 use Rattle.desk_ports.specs.Courses.{to_output}
-use Rattle.desk_ports.proofs.Writings.{Writes-is}
+use Rattle.desk_ports.proofs.Steps.{Writes-is}
 use Rattle.mask_update.specs.Histories.{History}
 use Rattle.packet_encode.specs.Encoder.{StandsFor}
-use Rattle.packet_encode.specs.Packets.{with_next_input}
+use Rattle.packet_encode.specs.Forms.{with_next_input}
 use Rattle.packet_store.specs.SpacePackets.{period, space_packet}
 use Rattle.packet_store.specs.StoreWriter.{WriterState}
-use Rattle.flight_chain.specs.Compressing.{history_by, with_packet}
-use Rattle.flight_chain.specs.Stores.{data_at}
+use Rattle.flight_chain.specs.Compressing.{history_by, with_packet, data_at}
 use Rattle.flight_chain.proofs.CompressCourses.{HasTaken-next, next_packet-is}
 use Rattle.flight_chain.proofs.compressing.Compressing.put.Goals as goal
 

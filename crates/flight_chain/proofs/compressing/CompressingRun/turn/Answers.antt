@@ -1,14 +1,12 @@
 use Rattle.std.proofs.Common.{List, Bool, [], ◌∷◌, ◌++◌, ◌+◌, length, refl, ◌∙◌}
 use Rattle.std.proofs.lemmas.Result.{err_from_is_err_and}
 use Rattle.desk_ports.specs.declared.desk.Outlet.TheVariants as outlet
-use Rattle.desk_ports.proofs.Runs.{Ran-none}
-use Rattle.desk_ports.proofs.Steps.{AreReady-moved}
-use Rattle.desk_ports.proofs.WalkTurns.{Advances-on, Finishes-on, IsCutShort-on}
-use Rattle.desk_ports.specs.WalkWorks.{work_on}
+use Rattle.desk_ports.proofs.Courses.{Ran-none}
+use Rattle.desk_ports.proofs.Steps.{AreReady-moved, Advances-on, Finishes-on, IsCutShort-on}
+use Rattle.desk_ports.specs.Courses.{work_on}
 use Rattle.flight_chain.specs.Compressing.{left_to_compress, Owes, stop_by}
 use Rattle.flight_chain.specs.Recordings.{walk_over}
-use Rattle.flight_chain.proofs.CompressCourses.{AfterStop-next, GoesOn-compress, HasTaken-number, HasTaken-read, IsDone-compress, IsNext-read, rest_work-next}
-use Rattle.flight_chain.proofs.RecordTurns.{IsOver-recording}
+use Rattle.flight_chain.proofs.CompressCourses.{AfterStop-next, GoesOn-compress, HasTaken-number, HasTaken-read, IsDone-compress, IsNext-read, rest_work-next, IsOver-recording}
 use Rattle.flight_chain.proofs.compressing.CompressingRun.turn.Goals as goal
 
 -- the recording is not read on

@@ -1,7 +1,7 @@
 use Rattle.std.proofs.Common.{subst}
 use Rattle.desk_ports.specs.Courses.{AfterRun, by_stop}
 use Rattle.flight_chain.specs.Compressing.{Compression, compression_of, compress_work, stop_by}
-use Rattle.flight_chain.proofs.Flights.{Owes-unread}
+use Rattle.flight_chain.proofs.CompressCourses.{Owes-unread}
 use Rattle.flight_chain.proofs.flight.Flight.compress.Goals as goal
 
 pub drive_whole-requires-clause-owed : goal.drive_whole-requires-clause-owed

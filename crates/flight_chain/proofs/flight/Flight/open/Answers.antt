@@ -1,4 +1,4 @@
-use Rattle.flight_chain.proofs.Flights.{compression_of-none, HasTakenNothing-opened}
+use Rattle.flight_chain.proofs.CompressCourses.{compression_of-none, HasTakenNothing-opened}
 use Rattle.flight_chain.proofs.flight.Flight.open.Goals as goal
 
 pub invariant_of-result : goal.invariant_of-result

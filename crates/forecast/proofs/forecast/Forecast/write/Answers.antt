@@ -1,8 +1,7 @@
 use Rattle.std.proofs.Common.{◌≡◌, ℕ, IfOk, ap, subst, ◌∙◌}
 use Rattle.desk_ports.specs.Courses.{to_output}
-use Rattle.desk_ports.proofs.Writings.{Writes-is}
-use Rattle.forecast.specs.Outlooks.{ForecastState, foresees}
-use Rattle.forecast.specs.Texts.{forecast_text, sure_count}
+use Rattle.desk_ports.proofs.Steps.{Writes-is}
+use Rattle.forecast.specs.Outlooks.{ForecastState, foresees, forecast_text, sure_count}
 use Rattle.forecast.proofs.forecast.Forecast.write.Goals as goal
 
 pub returns-clause-written : goal.returns-clause-written

@@ -1,7 +1,7 @@
 use Rattle.std.proofs.Common.{◌≡◌, ℕ, ◌+◌, Bool, cond, Option, Some, sym, ap, ◌∙◌}
 use Rattle.forecast.specs.declared.latest.LatestSure.{LatestSure}
 use Rattle.forecast.specs.Prospects.{is_mask_sure, is_sure, latest_mask_sure, latest_sure}
-use Rattle.forecast.proofs.Sure.{latest_mask-next, latest_sure-next}
+use Rattle.forecast.proofs.Foresight.{latest_mask-next, latest_sure-next}
 use Rattle.forecast.proofs.latest.LatestSure.take.Goals as goal
 
 -- a latest number with one more, by what is sure

@@ -8,8 +8,8 @@ use Rattle.forecast.specs.declared.running.Running.TheInside.{Inside}
 use Rattle.forecast.specs.Outlooks.{HasForeseen, OutlookState, foresees, latest_at}
 use Rattle.forecast.specs.Prospects.{fate_of, is_sure}
 use Rattle.forecast.specs.Stretches.{same_fate}
-use Rattle.forecast.proofs.Rows.{sure_count-next}
-use Rattle.forecast.proofs.Sure.{same_sure}
+use Rattle.forecast.proofs.Stretches.{sure_count-next}
+use Rattle.forecast.proofs.Foresight.{same_sure}
 use Rattle.forecast.proofs.running.Running.take.Goals as goal
 use Rattle.forecast.proofs.running.Running.take.Goals.{then-is, else-is}
 

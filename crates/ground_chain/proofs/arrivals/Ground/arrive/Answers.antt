@@ -1,11 +1,10 @@
 use Rattle.std.specs.Prelude.{IfSome}
 use Rattle.std.proofs.Common.{◌≡◌, ℕ, Option, Some, None, refl, sym, ap, ◌∙◌, subst, rules}
 use Rattle.ground_chain.specs.declared.verdict.Verdict.{Verdict}
-use Rattle.ground_chain.specs.Numbers.{number_after, latest_after, expected}
-use Rattle.ground_chain.specs.Run.{Judged, Known, lost_from, answer_kind, verdict_of}
+use Rattle.ground_chain.specs.Run.{number_after, latest_after, expected, Judged, Known, lost_from, answer_kind, verdict_of}
 use Rattle.ground_chain.specs.Refusals.{IsExactVerdict}
 use Rattle.ground_chain.specs.Reception.{Reception, AgreesWith, StandsFor, known_of, next_judged}
-use Rattle.ground_chain.proofs.Receptions.{judged_read, kept_read, judged_repeat, shows_read, shows_repeat, stands_next}
+use Rattle.ground_chain.proofs.EveryRun.{judged_read, kept_read, judged_repeat, shows_read, shows_repeat, stands_next}
 use Rattle.bit_vectors.specs.Vectors.{bits_of}
 use Rattle.ground_chain.proofs.Told.{IsLater, number_later}
 use Rattle.ground_chain.proofs.arrivals.Ground.arrive.Goals as goal

@@ -1,9 +1,9 @@
 use Rattle.std.proofs.Common.{[], refl, subst}
 use Rattle.desk_ports.specs.Courses.{AfterRun, by_stop}
-use Rattle.desk_ports.proofs.Runs.{Ran-none}
+use Rattle.desk_ports.proofs.Courses.{Ran-none}
 use Rattle.desk_ports.proofs.Steps.{AfterRun-wrote}
 use Rattle.ground_chain.specs.Listing.{listed_texts, listing_course, listing_work}
-use Rattle.packet_store.specs.Faults.{stop_by}
+use Rattle.packet_store.specs.StoreReader.{stop_by}
 use Rattle.ground_chain.specs.Restoring.{RestorerState}
 use Rattle.ground_chain.specs.Receiving.{receiving_state, rest_work}
 use Rattle.ground_chain.proofs.DeliveredRuns.{IsOk-run}

@@ -2,9 +2,9 @@ use Rattle.std.proofs.Common.{◌≡◌, eqb, Some, codes, sym, ap, ◌∙◌}
 use Rattle.std.specs.Option.{option_eq}
 use Rattle.desk_ports.specs.declared.desk.Outlet.TheVariants as outlet
 use Rattle.desk_ports.specs.Courses.{to_output}
-use Rattle.desk_ports.proofs.Writings.{Writes-cut-more, Writes-is, Writes-more}
+use Rattle.desk_ports.proofs.Steps.{Writes-cut-more, Writes-is, Writes-more}
 use Rattle.ground_chain.specs.Listing.{mask_text, known_with}
-use Rattle.ground_chain.proofs.LinePieces.{not_known}
+use Rattle.ground_chain.proofs.RestCourses.{not_known}
 use Rattle.ground_chain.proofs.listing.Listing.write_mask.Goals as goal
 
 pub returns-in_err-write_all-clause-written : goal.returns-in_err-write_all-clause-written

@@ -1,7 +1,7 @@
 use Rattle.std.proofs.Common.{ap, ◌∙◌}
 use Rattle.desk_ports.specs.declared.desk.Outlet.TheVariants as outlet
 use Rattle.desk_ports.specs.Courses.{to_output}
-use Rattle.desk_ports.proofs.Writings.{Writes-cut-more, Writes-is, Writes-more}
+use Rattle.desk_ports.proofs.Steps.{Writes-cut-more, Writes-is, Writes-more}
 use Rattle.ground_chain.proofs.listing.Listing.write_vector.Goals as goal
 
 pub returns-in_err-write_all-clause-written : goal.returns-in_err-write_all-clause-written

@@ -1,10 +1,10 @@
 use Rattle.std.proofs.Common.{Bool, List, codes, ◌++◌, ap}
 use Rattle.desk_ports.specs.declared.desk.Outlet.TheVariants as outlet
 use Rattle.desk_ports.specs.Courses.{to_output}
-use Rattle.desk_ports.proofs.Writings.{Writes-cut-more, Writes-is, Writes-more}
-use Rattle.packet_decode.specs.Decoding.{latest_content}
+use Rattle.desk_ports.proofs.Steps.{Writes-cut-more, Writes-is, Writes-more}
+use Rattle.packet_decode.specs.State.{latest_content}
 use Rattle.ground_chain.specs.Listing.{known_with, mask_text, vector_digits}
-use Rattle.ground_chain.proofs.LinePieces.{vectors_text-pieces}
+use Rattle.ground_chain.proofs.RestCourses.{vectors_text-pieces}
 use Rattle.ground_chain.proofs.listing.Listing.write_vectors.Goals as goal
 
 pub returns-in_err-write_vector-clause-written : goal.returns-in_err-write_vector-clause-written

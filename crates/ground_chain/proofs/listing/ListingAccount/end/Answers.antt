@@ -1,7 +1,7 @@
 use Rattle.std.proofs.Common.{refl, ap, ◌∙◌}
 use Rattle.desk_ports.specs.declared.desk.Outlet.TheVariants as outlet
 use Rattle.desk_ports.specs.Courses.{to_output}
-use Rattle.desk_ports.proofs.Writings.{Writes-is}
+use Rattle.desk_ports.proofs.Steps.{Writes-is}
 use Rattle.ground_chain.proofs.listing.ListingAccount.end.Goals as goal
 
 pub write_all-requires : goal.write_all-requires

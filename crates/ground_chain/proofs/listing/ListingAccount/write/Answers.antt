@@ -1,10 +1,10 @@
 use Rattle.std.proofs.Common.{refl, sym, ap, ◌∙◌}
 use Rattle.desk_ports.specs.declared.desk.Outlet.TheVariants as outlet
 use Rattle.desk_ports.specs.Courses.{to_output}
-use Rattle.desk_ports.proofs.Writings.{Writes-cut-more, Writes-is, Writes-more, Writes-ready}
+use Rattle.desk_ports.proofs.Steps.{Writes-cut-more, Writes-is, Writes-more, Writes-ready}
 use Rattle.ground_chain.specs.declared.verdict.Verdict.{Verdict}
 use Rattle.ground_chain.specs.Listing.{front_line, own_vectors, shown_vectors}
-use Rattle.ground_chain.proofs.LinePieces.{lines-are, shown-are}
+use Rattle.ground_chain.proofs.RestCourses.{lines-are, shown-are}
 use Rattle.ground_chain.proofs.listing.ListingAccount.write.Goals as goal
 
 pub write_all-requires : goal.write_all-requires

@@ -1,10 +1,8 @@
 use Rattle.std.proofs.Common.{refl, ap, arith}
 use Rattle.std.proofs.lemmas.Result.{err_from_is_err_and}
-use Rattle.desk_ports.proofs.Runs.{Ran-none}
-use Rattle.desk_ports.proofs.Steps.{AreReady-moved}
-use Rattle.desk_ports.proofs.WalkTurns.{Advances-on, AfterStop-on, Finishes-on, IsCutShort-on, IsCutShort-end-on}
-use Rattle.packet_store.specs.Faults.{stop_of}
-use Rattle.packet_store.specs.StoreReader.{walk_over}
+use Rattle.desk_ports.proofs.Courses.{Ran-none}
+use Rattle.desk_ports.proofs.Steps.{AreReady-moved, Advances-on, AfterStop-on, Finishes-on, IsCutShort-on, IsCutShort-end-on}
+use Rattle.packet_store.specs.StoreReader.{stop_of, walk_over}
 use Rattle.packet_store.proofs.StoreTurns.{AfterWalk-store, IsOver-store, TakesItem-store}
 use Rattle.ground_chain.specs.Receiving.{left_to_receive}
 use Rattle.ground_chain.specs.declared.restored.Restored.{Restored}

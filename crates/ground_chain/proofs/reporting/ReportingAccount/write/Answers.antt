@@ -1,10 +1,10 @@
 use Rattle.std.proofs.Common.{false, ◌≡◌, true, ℕ, List, ◌++◌, append-nil, refl, sym, ap, ◌∙◌}
 use Rattle.desk_ports.specs.declared.desk.Outlet.TheVariants as outlet
 use Rattle.desk_ports.specs.Courses.{to_output, to_report}
-use Rattle.desk_ports.proofs.Writings.{Writes-cut, Writes-err, Writes-is, Writes-ok, Writes-ready, Writes-then}
+use Rattle.desk_ports.proofs.Steps.{Writes-cut, Writes-err, Writes-is, Writes-ok, Writes-ready, Writes-then}
 use Rattle.ground_chain.specs.declared.verdict.Verdict.{Verdict}
 use Rattle.ground_chain.specs.Report.{is_written_kind, verdict_rows, written_bytes}
-use Rattle.ground_chain.proofs.Writings.{content_written, no_content}
+use Rattle.ground_chain.proofs.RestCourses.{content_written, no_content}
 use Rattle.ground_chain.proofs.reporting.ReportingAccount.write.Goals as goal
 
 pub write_rows-requires : goal.write_rows-requires

@@ -5,7 +5,7 @@ use Rattle.mask_update.specs.Histories.{History}
 use Rattle.packet_store.specs.declared.fault.RunFault.{RunFault}
 use Rattle.ground_chain.specs.declared.restored.Restored.{Restored}
 use Rattle.ground_chain.specs.Deliveries.{IsDelivered, IsPlayed}
-use Rattle.packet_store.specs.Faults.{stop_by}
+use Rattle.packet_store.specs.StoreReader.{stop_by}
 use Rattle.ground_chain.specs.Restoring.{RestorerState, restore_work}
 use Rattle.ground_chain.proofs.DeliveredRuns.{IsDelivered-done, IsOk-run}
 use Rattle.ground_chain.proofs.restorer.Restorer.restore.Goals as goal

@@ -1,6 +1,6 @@
 use Rattle.std.proofs.Common.{refl, sym, ◌∙◌, arith}
 use Rattle.std.proofs.lemmas.Bool.{false≢true}
-use Rattle.ground_chain.proofs.SavedReckonings.{counted, counts_size, decoding_of, fitting, reckoning_made}
+use Rattle.ground_chain.proofs.Reckonings.{counted, counts_size, decoding_of, fitting, reckoning_made}
 use Rattle.ground_chain.proofs.tallied.Tallied.is_saved.Goals as goal
 
 pub returns-in_default : goal.returns-in_default

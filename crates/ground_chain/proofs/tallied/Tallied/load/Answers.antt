@@ -1,7 +1,7 @@
 use Rattle.std.proofs.Common.{refl, sym, subst, arith}
 use Rattle.packet_decode.specs.Saved.{AreOfDecoding, IsDecoding}
-use Rattle.ground_chain.specs.Reckoning.{Reckoning}
-use Rattle.ground_chain.proofs.SavedReckonings.{counted, counts_size, decoding_of, fitting}
+use Rattle.ground_chain.specs.Reception.{Reckoning}
+use Rattle.ground_chain.proofs.Reckonings.{counted, counts_size, decoding_of, fitting}
 use Rattle.ground_chain.proofs.tallied.Tallied.load.Goals as goal
 
 pub unreachable-requires : goal.unreachable-requires

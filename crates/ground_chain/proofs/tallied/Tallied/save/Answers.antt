@@ -3,10 +3,10 @@ use Rattle.bit_vectors.specs.Vectors.{byte_count}
 use Rattle.state_bytes.specs.Parts.{Puts}
 use Rattle.state_bytes.proofs.Parts.{Puts-then}
 use Rattle.packet_decode.specs.Saved.{decoding_bytes}
-use Rattle.ground_chain.specs.Numbers.{expected}
-use Rattle.ground_chain.specs.Reckoning.{Reckoning}
+use Rattle.ground_chain.specs.Run.{expected}
+use Rattle.ground_chain.specs.Reception.{Reckoning}
 use Rattle.ground_chain.specs.Saved.{counts_before, reckoning_bytes}
-use Rattle.ground_chain.proofs.SavedReckonings.{Puts-within, counts_length, counts_then}
+use Rattle.ground_chain.proofs.Reckonings.{Puts-within, counts_length, counts_then}
 use Rattle.ground_chain.proofs.tallied.Tallied.save.Goals as goal
 
 pub save-requires-clause-room : goal.save-requires-clause-room

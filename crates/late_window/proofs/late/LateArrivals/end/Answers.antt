@@ -2,12 +2,11 @@ use Rattle.std.proofs.Common.{[], ◌∙◌, true, ap, refl}
 use Rattle.desk_ports.specs.declared.desk.Outlet.TheVariants as outlet
 use Rattle.desk_ports.specs.Courses.{to_report}
 use Rattle.desk_ports.specs.Turns.{AreReady}
-use Rattle.desk_ports.proofs.Steps.{AreReady-ran}
-use Rattle.desk_ports.proofs.Writings.{Writes-cut, Writes-cut-more, Writes-err, Writes-is, Writes-more, Writes-ok}
+use Rattle.desk_ports.proofs.Steps.{AreReady-ran, Writes-cut, Writes-cut-more, Writes-err, Writes-is, Writes-more, Writes-ok}
 use Rattle.ground_chain.specs.Report.{end_row}
-use Rattle.late_window.specs.Rows.{late_row}
+use Rattle.late_window.specs.Order.{late_row}
 use Rattle.late_window.specs.Late.{done_of, last_rows}
-use Rattle.late_window.proofs.Ends.{IsEmptied, Writes-last, held_of}
+use Rattle.late_window.proofs.Held.{IsEmptied, Writes-last, held_of}
 use Rattle.late_window.proofs.late.LateArrivals.end.Goals as goal
 
 pub end-requires : goal.end-requires

@@ -1,5 +1,5 @@
 use Rattle.std.proofs.Common.{◌≡◌, ℕ, [], ◌∷◌, append-nil, take, unwrap_or, Option, sym, ap, ◌∙◌}
-use Rattle.desk_ports.proofs.Writings.{Writes-is}
+use Rattle.desk_ports.proofs.Steps.{Writes-is}
 use Rattle.late_window.specs.Late.{held_bytes}
 use Rattle.late_window.proofs.late.LateArrivals.judge_least.Goals as goal
 

@@ -1,9 +1,9 @@
 use Rattle.std.proofs.Common.{subst}
 use Rattle.desk_ports.specs.Courses.{AfterRun, by_stop}
-use Rattle.packet_store.specs.Faults.{stop_by}
+use Rattle.packet_store.specs.StoreReader.{stop_by}
 use Rattle.late_window.specs.Restoring.{LateState, late_state, late_work, rest_work}
-use Rattle.late_window.proofs.Delivered.{IsLateDelivered-run, IsOk-run}
-use Rattle.late_window.proofs.Wholes.{Owes-unread, Steps-unread}
+use Rattle.late_window.proofs.Held.{IsLateDelivered-run, IsOk-run}
+use Rattle.late_window.proofs.Rests.{Owes-unread, Steps-unread}
 use Rattle.late_window.proofs.restorer.LateRestorer.restore.Goals as goal
 
 pub returns-clause-ran : goal.returns-clause-ran

@@ -1,15 +1,13 @@
 use Rattle.std.proofs.Common.{◌+◌, refl, sym, subst, arith}
 use Rattle.std.proofs.lemmas.Result.{err_from_is_err_and}
-use Rattle.desk_ports.proofs.Runs.{Ran-none}
-use Rattle.desk_ports.proofs.WalkTurns.{Advances-on, AfterStop-on, Finishes-on, IsCutShort-on, IsCutShort-end-on}
-use Rattle.packet_store.specs.Faults.{stop_of}
-use Rattle.packet_store.specs.StoreReader.{walk_over}
+use Rattle.desk_ports.proofs.Courses.{Ran-none}
+use Rattle.desk_ports.proofs.Steps.{Advances-on, AfterStop-on, Finishes-on, IsCutShort-on, IsCutShort-end-on}
+use Rattle.packet_store.specs.StoreReader.{stop_of, walk_over}
 use Rattle.packet_store.proofs.StoreTurns.{AfterWalk-store, IsOver-store, TakesItem-store}
 use Rattle.desk_ports.specs.Courses.{Finishes}
 use Rattle.late_window.specs.declared.done.LateDone.{LateDone}
 use Rattle.late_window.specs.Restoring.{left_to_sort}
-use Rattle.late_window.proofs.Lefts.{limits-next}
-use Rattle.late_window.proofs.Rests.{GoesOn-passed, GoesOn-sorted, IsDone-sorted, Owes-next, limits-more}
+use Rattle.late_window.proofs.Rests.{limits-next, GoesOn-passed, GoesOn-sorted, IsDone-sorted, Owes-next, limits-more}
 use Rattle.late_window.proofs.run.LateRunRun.turn.Goals as goal
 
 -- the store is not read on

@@ -1,8 +1,8 @@
 use Rattle.std.proofs.Common.{◌≡◌, length, take, sym, ap, ◌∙◌, subst, arith}
 use Rattle.std.proofs.lemmas.List.{length-take-le}
-use Rattle.late_window.specs.Numbers.{Numbered}
+use Rattle.late_window.specs.Order.{Numbered}
 use Rattle.late_window.specs.Lines.{AreRising, Sorting}
-use Rattle.late_window.proofs.Placing.{AreRising-placed}
+use Rattle.late_window.proofs.Sortings.{AreRising-placed}
 use Rattle.late_window.proofs.sorter.Sorter.push.Goals as goal
 
 pub invariant_of-self : goal.invariant_of-self

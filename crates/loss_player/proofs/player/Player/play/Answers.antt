@@ -1,7 +1,7 @@
 use Rattle.std.proofs.Common.{subst}
 use Rattle.desk_ports.specs.Courses.{AfterRun, by_stop}
 use Rattle.side_tables.specs.Rows.{copies_of}
-use Rattle.packet_store.specs.Faults.{stop_by}
+use Rattle.packet_store.specs.StoreReader.{stop_by}
 use Rattle.loss_player.specs.Playing.{PlayerState, play_work, player_state}
 use Rattle.loss_player.proofs.PlayCourses.{Owes-unread}
 use Rattle.loss_player.proofs.player.Player.play.Goals as goal

@@ -1,10 +1,8 @@
 use Rattle.std.proofs.Common.{refl}
 use Rattle.std.proofs.lemmas.Result.{err_from_is_err_and}
 use Rattle.desk_ports.specs.declared.desk.Outlet.TheVariants as outlet
-use Rattle.desk_ports.proofs.Steps.{AreReady-moved}
-use Rattle.desk_ports.proofs.WalkTurns.{AfterStop-on, Advances-on, IsCutShort-on, Finishes-on, IsCutShort-end-on}
-use Rattle.packet_store.specs.Faults.{stop_of}
-use Rattle.packet_store.specs.StoreReader.{walk_over}
+use Rattle.desk_ports.proofs.Steps.{AreReady-moved, AfterStop-on, Advances-on, IsCutShort-on, Finishes-on, IsCutShort-end-on}
+use Rattle.packet_store.specs.StoreReader.{stop_of, walk_over}
 use Rattle.packet_store.proofs.StoreTurns.{AfterWalk-store, IsOver-store, TakesItem-store}
 use Rattle.loss_player.specs.Playing.{left_to_play}
 use Rattle.loss_player.proofs.PlayCourses.{GoesOn-played, IsDone-played, Owes-played}

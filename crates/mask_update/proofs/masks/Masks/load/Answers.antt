@@ -5,7 +5,7 @@ use Rattle.bit_vectors.specs.Vectors.{IsPlaces}
 use Rattle.state_bytes.specs.Parts.{BeginsVector, vector_part}
 use Rattle.mask_update.specs.Masks.{Running}
 use Rattle.mask_update.specs.Saved.{bit_byte}
-use Rattle.mask_update.proofs.SavedMasks.{bit_is, counted, counted_size, fits}
+use Rattle.mask_update.proofs.Standing.{bit_is, counted, counted_size, fits}
 use Rattle.mask_update.proofs.masks.Masks.load.Goals as goal
 
 begins : (f g : ℕ) (v : List Bool) (bytes rest : List ℕ) → length v ≡ f → f ≡ g → bytes ≡ vector_part v ++ rest → BeginsVector g v bytes rest

@@ -4,7 +4,7 @@ use Rattle.std.specs.Prelude.{IfSome, ◌==◌}
 use Rattle.bit_vectors.specs.Vectors.{IsPlaces}
 use Rattle.mask_update.specs.Masks.{Running}
 use Rattle.mask_update.specs.Saved.{BeginsFour, BeginsRunning, bit_byte, counted_before}
-use Rattle.mask_update.proofs.SavedMasks.{bit_byte_most, counted, counted_size, fits, four_of, running_made}
+use Rattle.mask_update.proofs.Standing.{bit_byte_most, counted, counted_size, fits, four_of, running_made}
 use Rattle.mask_update.proofs.masks.Masks.pass.Goals as goal
 use Rattle.mask_update.proofs.masks.Masks.pass.Goals.{then-taken-gt4294967296-via-then-taken-gt4294967296, then-taken-gt4294967296-via-else-taken-gt4294967296+then-again-gt1}
 

@@ -5,7 +5,7 @@ use Rattle.state_bytes.specs.Parts.{Puts, vector_part}
 use Rattle.state_bytes.proofs.Parts.{Puts-then, length-number_bytes}
 use Rattle.mask_update.specs.Masks.{Running}
 use Rattle.mask_update.specs.Saved.{bit_byte, counted_before, four_before, running_before}
-use Rattle.mask_update.proofs.SavedMasks.{part_within}
+use Rattle.mask_update.proofs.Standing.{part_within}
 use Rattle.mask_update.proofs.masks.Masks.save.Goals as goal
 
 pub put-at-requires : goal.put-at-requires

@@ -4,8 +4,7 @@ use Rattle.std.proofs.lemmas.Bool.{OnTrue_from}
 use Rattle.bit_vectors.specs.Vectors.{xor_bits}
 use Rattle.mask_update.specs.Masks.{Advances, Running, StandsFor, next_mask}
 use Rattle.mask_update.specs.Histories.{with_step}
-use Rattle.mask_update.proofs.Standing.{StandsFor-first, StandsFor-next}
-use Rattle.mask_update.proofs.Unmoved.{stays}
+use Rattle.mask_update.proofs.Standing.{StandsFor-first, StandsFor-next, stays}
 use Rattle.mask_update.proofs.masks.Masks.step.Goals as goal
 use Rattle.mask_update.proofs.masks.Masks.step.Goals.{then-self-gt0, else-self-gt0}
 

@@ -2,7 +2,7 @@ use Rattle.std.proofs.Common.{◌<◌, ◌++◌, ◌∷◌, [], length, ap, sym,
 use Rattle.std.proofs.lemmas.List.{map_more}
 use Rattle.side_tables.specs.declared.rows.StreamRow.{StreamRow}
 use Rattle.side_tables.specs.Streams.{no_stream}
-use Rattle.ground_chain.specs.Reckoning.{nothing_judged}
+use Rattle.ground_chain.specs.Reception.{nothing_judged}
 use Rattle.multi_ground.proofs.ground.MultiGround.open.Goals as goal
 
 pub loop-index-preserved : goal.loop-index-preserved

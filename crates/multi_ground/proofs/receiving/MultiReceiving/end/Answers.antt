@@ -2,12 +2,12 @@ use Rattle.std.proofs.Common.{◌<◌, ◌≤◌, ◌+◌, ◌++◌, List, drop,
 use Rattle.std.proofs.lemmas.List.{take_all}
 use Rattle.desk_ports.specs.declared.desk.Outlet.TheVariants as outlet
 use Rattle.desk_ports.specs.Courses.{to_report}
-use Rattle.desk_ports.proofs.Writings.{Writes-cut-more, Writes-is, Writes-more, Writes-none, Writes-ok, Writes-ready}
+use Rattle.desk_ports.proofs.Steps.{Writes-cut-more, Writes-is, Writes-more, Writes-none, Writes-ok, Writes-ready}
 use Rattle.side_tables.specs.declared.rows.StreamRow.{StreamRow}
-use Rattle.ground_chain.specs.Reckoning.{Reckoning}
+use Rattle.ground_chain.specs.Reception.{Reckoning}
 use Rattle.multi_ground.specs.MultiRun.{shape_count}
 use Rattle.multi_ground.specs.MultiOutputs.{end_rows, shape_row, tagged}
-use Rattle.multi_ground.proofs.LastRows.{end_of-kept, more_rows, rows_after}
+use Rattle.multi_ground.proofs.StreamsApart.{end_of-kept, more_rows, rows_after}
 use Rattle.multi_ground.proofs.receiving.MultiReceiving.end.Goals as goal
 
 pub loop-index-init : goal.loop-index-init

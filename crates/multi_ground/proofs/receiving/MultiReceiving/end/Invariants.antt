@@ -2,7 +2,7 @@ use Rattle.std.proofs.Common.{◌≡◌, List, take}
 use Rattle.desk_ports.specs.declared.desk.Outlet.TheVariants as outlet
 use Rattle.desk_ports.specs.Meanings.{IsReadyOut}
 use Rattle.desk_ports.specs.Courses.{to_report}
-use Rattle.desk_ports.proofs.Writings.{HasWritten}
+use Rattle.desk_ports.proofs.Steps.{HasWritten}
 use Rattle.packet_store.specs.SpacePackets.{Packet}
 use Rattle.multi_ground.specs.MultiOutputs.{end_rows}
 use Rattle.multi_ground.specs.Receiving.{HasReceived}

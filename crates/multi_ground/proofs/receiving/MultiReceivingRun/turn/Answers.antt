@@ -1,8 +1,7 @@
 use Rattle.std.proofs.Common.{refl}
 use Rattle.std.proofs.lemmas.Result.{err_from_is_err_and}
-use Rattle.desk_ports.proofs.WalkTurns.{Advances-on, AfterStop-on, Finishes-on, IsCutShort-on, IsCutShort-end-on}
-use Rattle.packet_store.specs.Faults.{stop_of}
-use Rattle.packet_store.specs.StoreReader.{walk_over}
+use Rattle.desk_ports.proofs.Steps.{Advances-on, AfterStop-on, Finishes-on, IsCutShort-on, IsCutShort-end-on}
+use Rattle.packet_store.specs.StoreReader.{stop_of, walk_over}
 use Rattle.packet_store.proofs.StoreTurns.{AfterWalk-store, IsOver-store, TakesItem-store, packet_of}
 use Rattle.multi_ground.specs.Receiving.{left_after}
 use Rattle.multi_ground.proofs.MultiCourses.{GoesOn-next, HasRead-taken, IsDone-received, Owes-next, received-read}

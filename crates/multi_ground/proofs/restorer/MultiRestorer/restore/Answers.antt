@@ -2,20 +2,17 @@ use Rattle.std.proofs.Common.{◌≡◌, ◌<◌, ℕ, All, List, [], Some, Resu
 use Rattle.std.proofs.lemmas.Result.{err_from_is_err_and}
 use Rattle.desk_ports.specs.declared.desk.Inlet.TheVariants as inlet
 use Rattle.desk_ports.specs.Meanings.{Meanings, left}
-use Rattle.desk_ports.specs.Courses.{AfterRun, IsCutShort, by_stop, to_report}
+use Rattle.desk_ports.specs.Courses.{AfterRun, IsCutShort, by_stop, to_report, work_on}
 use Rattle.desk_ports.proofs.Steps.{AfterRun-wrote, IsCutShort-wrote}
-use Rattle.desk_ports.specs.WalkWorks.{work_on}
-use Rattle.packet_store.specs.StoreReader.{walk_over}
+use Rattle.packet_store.specs.StoreReader.{walk_over, stop_by}
 use Rattle.side_tables.specs.declared.rows.StreamRow.{StreamRow}
 use Rattle.side_tables.specs.Streams.{AreStreams}
 use Rattle.packet_store.specs.declared.fault.RunFault.{RunFault}
-use Rattle.packet_store.specs.Faults.{stop_by}
 use Rattle.multi_ground.specs.Apart.{AreRestored}
 use Rattle.multi_ground.specs.MultiOutputs.{multi_course, multi_header, multi_work}
 use Rattle.multi_ground.specs.Receiving.{left_after}
-use Rattle.multi_ground.proofs.MultiCourses.{Owes-unread, Steps-unread}
-use Rattle.multi_ground.proofs.NoShapes.{no_shape}
-use Rattle.multi_ground.proofs.Restored.{AreRestored-done}
+use Rattle.multi_ground.proofs.MultiCourses.{Owes-unread, Steps-unread, no_shape}
+use Rattle.multi_ground.proofs.StreamsApart.{AreRestored-done}
 use Rattle.multi_ground.proofs.restorer.MultiRestorer.restore.Goals as goal
 
 pub returns-in_err-write_header-clause-ran : goal.returns-in_err-write_header-clause-ran

@@ -1,9 +1,9 @@
 use Rattle.std.proofs.Common.{Err, refl, sym, ap, subst, ◌∙◌}
 use Rattle.std.proofs.lemmas.Bool.{false≢true}
-use Rattle.ground_chain.specs.Reckoning.{Reckoning}
+use Rattle.ground_chain.specs.Reception.{Reckoning}
 use Rattle.ground_chain.specs.Saved.{IsReckoning}
 use Rattle.packet_calls.specs.States.{receiver_state}
-use Rattle.packet_calls.proofs.States.{body_is, frame_of, not_other, of_body, to_body}
+use Rattle.packet_calls.proofs.Received.{body_is, frame_of, not_other, of_body, to_body}
 use Rattle.packet_calls.proofs.receiver.Receiver.load.Goals as goal
 
 pub returns-in-Err-NoState-clause-exact : goal.returns-in-Err-NoState-clause-exact

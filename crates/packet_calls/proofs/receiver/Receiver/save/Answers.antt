@@ -1,9 +1,9 @@
 use Rattle.std.proofs.Common.{◌+◌, ◌*◌, ◌≤◌, length, ap, sym, subst, arith}
 use Rattle.bit_vectors.specs.Vectors.{byte_count}
-use Rattle.ground_chain.specs.Reckoning.{Reckoning}
+use Rattle.ground_chain.specs.Reception.{Reckoning}
 use Rattle.ground_chain.specs.Saved.{reckoning_bytes}
 use Rattle.packet_calls.specs.States.{receiver_kind, receiver_state}
-use Rattle.packet_calls.proofs.States.{reckoning_length, whole}
+use Rattle.packet_calls.proofs.Received.{reckoning_length, whole}
 use Rattle.packet_calls.proofs.receiver.Receiver.save.Goals as goal
 
 pub seal-requires : goal.seal-requires

@@ -3,7 +3,7 @@ use Rattle.std.proofs.lemmas.Bool.{false≢true}
 use Rattle.packet_encode.specs.Saved.{IsEncoderState}
 use Rattle.packet_calls.specs.Sending.{SenderState}
 use Rattle.packet_calls.specs.States.{sender_state}
-use Rattle.packet_calls.proofs.States.{body_of_sender, frame_of_sender, not_other, sender_of_body, sender_to_body}
+use Rattle.packet_calls.proofs.Received.{body_of_sender, frame_of_sender, not_other, sender_of_body, sender_to_body}
 use Rattle.packet_calls.proofs.sender.Sender.load.Goals as goal
 
 pub returns-in-Err-NoState-clause-exact : goal.returns-in-Err-NoState-clause-exact

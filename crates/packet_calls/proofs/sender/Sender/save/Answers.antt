@@ -4,7 +4,7 @@ use Rattle.packet_encode.specs.Saved.{encoder_bytes}
 use Rattle.packet_encode.proofs.SavedEncoders.{encoder_size}
 use Rattle.packet_calls.specs.Sending.{SenderState}
 use Rattle.packet_calls.specs.States.{sender_kind, sender_state}
-use Rattle.packet_calls.proofs.States.{whole}
+use Rattle.packet_calls.proofs.Received.{whole}
 use Rattle.packet_calls.proofs.sender.Sender.save.Goals as goal
 
 pub seal-requires : goal.seal-requires

@@ -3,8 +3,8 @@ use Rattle.std.proofs.Common.{rules, Some, None, ◌≡◌, ℕ, Bool, List, ◌
 use Rattle.std.proofs.lemmas.List.{take_at}
 use Rattle.bit_vectors.specs.Vectors.{vector_bytes}
 use Rattle.packet_encode.specs.Encoder.{StandsFor}
-use Rattle.packet_encode.specs.Packets.{with_next_input}
-use Rattle.flight_chain.specs.Stores.{data_at}
+use Rattle.packet_encode.specs.Forms.{with_next_input}
+use Rattle.flight_chain.specs.Compressing.{data_at}
 use Rattle.packet_calls.specs.Sending.{SenderState, vector_in}
 use Rattle.packet_calls.proofs.Refused.{fault_after, sending_fault-input}
 use Rattle.packet_calls.proofs.sender.Sender.send.Goals as goal

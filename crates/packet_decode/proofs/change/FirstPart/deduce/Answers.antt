@@ -1,7 +1,7 @@
 use Rattle.std.proofs.Common.{sym, ap, ◌∙◌}
 use Rattle.packet_decode.specs.State.{Change, mask_after}
 use Rattle.bit_vectors.specs.Vectors.{without_bits}
-use Rattle.packet_decode.proofs.PredictablePlaces.{mask_narrowed, mask_widened}
+use Rattle.packet_decode.proofs.PlaceByStep.{mask_narrowed, mask_widened}
 use Rattle.packet_decode.proofs.change.FirstPart.deduce.Goals as goal
 
 pub returns-then-is_some-clause-mask : goal.returns-then-is_some-clause-mask

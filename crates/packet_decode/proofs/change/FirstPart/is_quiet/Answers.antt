@@ -1,7 +1,7 @@
 use Rattle.std.proofs.Common.{length, ap, sym, ◌∙◌}
 use Rattle.std.proofs.lemmas.Bool.{OnTrue_from}
 use Rattle.packet_decode.specs.State.{Change, mask_after}
-use Rattle.packet_decode.proofs.UnchangedMask.{unchanged_mask}
+use Rattle.packet_decode.proofs.PlaceByStep.{unchanged_mask}
 use Rattle.packet_decode.proofs.change.FirstPart.is_quiet.Goals as goal
 
 pub returns-clause-stays : goal.returns-clause-stays

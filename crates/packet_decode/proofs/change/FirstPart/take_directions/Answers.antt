@@ -1,9 +1,8 @@
 use Rattle.std.proofs.Common.{◌≡◌, None, subst}
-use Rattle.bit_vectors.specs.Eye.{bits_left}
-use Rattle.bit_vectors.specs.Reading.{Read}
+use Rattle.bit_vectors.specs.Reading.{bits_left, Read}
 use Rattle.packet_decode.specs.PacketReading.{parse_directions}
 use Rattle.packet_decode.specs.State.{Change}
-use Rattle.packet_decode.proofs.NoDirections.{no_change, no_level}
+use Rattle.packet_decode.proofs.ExactChange.{no_change, no_level}
 use Rattle.packet_decode.proofs.change.FirstPart.take_directions.Goals as goal
 use Rattle.packet_decode.proofs.change.FirstPart.take_directions.Goals.{then-self-via-then-self, then-self-via-else-self+then-self-eq0}
 

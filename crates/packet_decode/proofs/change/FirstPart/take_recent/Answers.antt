@@ -1,12 +1,11 @@
 use Rattle.std.proofs.Common.{◌≡◌, Bool, List, length, replicate, sym, ap, ◌∙◌, false, true}
 use Rattle.std.specs.Prelude.{Contains}
 use Rattle.std.proofs.lemmas.Bool.{false≢true}
-use Rattle.bit_vectors.specs.Eye.{bits_left}
-use Rattle.bit_vectors.specs.Reading.{Read}
+use Rattle.bit_vectors.specs.Reading.{bits_left, Read}
 use Rattle.run_code.specs.Runs.{parse_vector}
 use Rattle.std.proofs.lemmas.List.{length-replicate}
 use Rattle.packet_decode.specs.State.{Change}
-use Rattle.packet_decode.proofs.RecentChanges.{no_one, nothing_comes, one_comes}
+use Rattle.packet_decode.proofs.ExactChange.{no_one, nothing_comes, one_comes}
 use Rattle.packet_decode.proofs.change.FirstPart.take_recent.Goals as goal
 
 pub returns-then-not-self-clause-reading : goal.returns-then-not-self-clause-reading

@@ -1,8 +1,7 @@
 use Rattle.std.proofs.Common.{◌≡◌, false, replicate, [], length, arith, refl, sym, subst, ◌∙◌, ap}
 use Rattle.state_bytes.specs.Parts.{vector_part}
-use Rattle.packet_decode.specs.Decoding.{known_vector, latest_content}
+use Rattle.packet_decode.specs.State.{known_vector, latest_content, Change}
 use Rattle.bit_vectors.specs.Vectors.{IsPlaces}
-use Rattle.packet_decode.specs.State.{Change}
 use Rattle.packet_decode.proofs.SavedDecoders.{content_begins, if_kept, if_map, mask_begins, numbers_size, part_is, recent_begins, zero_if_none}
 use Rattle.packet_decode.proofs.decoder.Decoder.load.Goals as goal
 

@@ -2,17 +2,15 @@ use Rattle.std.proofs.Common.{◌≡◌, ℕ, Bool, List, [], Option, length, ap
 use Rattle.std.proofs.lemmas.Bool.{true≢false, false≢true, and_parts}
 use Rattle.std.proofs.lemmas.Result.{err_from_is_err_and}
 use Rattle.bit_vectors.specs.Vectors.{bits_of}
-use Rattle.bit_vectors.specs.Eye.{bits_left}
-use Rattle.bit_vectors.specs.Reading.{Read}
+use Rattle.bit_vectors.specs.Reading.{bits_left, Read}
 use Rattle.packet_encode.specs.Forms.{Form}
-use Rattle.packet_decode.specs.State.{Change, IsState, deduced_by, known_if}
+use Rattle.packet_decode.specs.State.{Change, IsState, deduced_by, known_if, Decoding}
 use Rattle.packet_decode.specs.Spelling.{Spells}
 use Rattle.packet_decode.specs.declared.decoder.Reading.TheVariants.{Written}
 use Rattle.packet_decode.specs.declared.draft.Room.{Room}
 use Rattle.packet_decode.specs.declared.latest.Latest.{Latest}
 use Rattle.packet_decode.specs.PacketReading.{parse_whole_packet, answer_of, missed, outcome_answer, Outcome, Spelled, Opaque}
 use Rattle.packet_decode.specs.Parts.{IsDecoder, IsRemembered, SpellLatest, found_in, kept_state, part_by, tells_content, tells_mask}
-use Rattle.packet_decode.specs.Decoding.{Decoding}
 use Rattle.packet_decode.proofs.DecoderAnswers.{IsFound, IsTold, decoding_of, exact_by, says_by, spelled_by, has_state, found_is, opaque_unspelled, fault_is, reading_is, alone_is, written_is, deduced_is, told_as}
 use Rattle.packet_decode.proofs.OneAnswer.{spelled_places}
 use Rattle.packet_decode.proofs.RepeatedPacket.{answer_again, found_again, written_again, kept_is, spell_latest}

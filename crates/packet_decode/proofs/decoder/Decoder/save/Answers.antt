@@ -2,7 +2,7 @@ use Rattle.std.proofs.Common.{◌≡◌, ℕ, ◌+◌, ◌*◌, ◌<◌, ◌≤�
 use Rattle.bit_vectors.specs.Vectors.{byte_count}
 use Rattle.state_bytes.specs.Parts.{Puts, vector_part}
 use Rattle.state_bytes.proofs.Parts.{Puts-then, length-number_bytes, vector_part_size}
-use Rattle.packet_decode.specs.Decoding.{latest_mask_number, latest_number}
+use Rattle.packet_decode.specs.State.{latest_mask_number, latest_number}
 use Rattle.packet_decode.specs.Saved.{IsDecoding, decoding_bytes, number_and_one, numbers_before, three_parts}
 use Rattle.packet_decode.proofs.SavedDecoders.{has_part, if_part, kept_number, kept_vector}
 use Rattle.packet_decode.proofs.decoder.Decoder.save.Goals as goal

@@ -2,7 +2,7 @@ use Rattle.std.proofs.Common.{◌≡◌, ◌+◌, ◌*◌, ◌/◌, ◌%◌, ◌
 use Rattle.std.proofs.lemmas.Bool.Decides.{Decides-eqb}
 use Rattle.std.proofs.lemmas.Option.{same_Some}
 use Rattle.std.proofs.lemmas.Slice.Eq.{slice_eq-Decides}
-use Rattle.packet_decode.proofs.OtherLevel.{at_level}
+use Rattle.packet_decode.proofs.RepeatedPacket.{at_level}
 use Rattle.packet_decode.proofs.remembered.Remembered.level_of.Goals as goal
 
 pub returns-then-eq : goal.returns-then-eq

@@ -12,13 +12,10 @@ use Rattle.robust_window.specs.Changes.{latest_change, level_of, recent_of, twic
 use Rattle.robust_window.specs.Histories.{level_at, mask_step_at, mask_steps, recent_at, twice_at}
 use Rattle.robust_window.specs.Window.{WindowState}
 use Rattle.robust_window.specs.Window.{StandsFor as WindowStandsFor}
-use Rattle.robust_window.proofs.Earlier.{latest_change-is, mask_steps-push}
+use Rattle.robust_window.proofs.OfHistories.{latest_change-is, mask_steps-push}
 use Rattle.packet_encode.specs.Encoder.{EncoderState, StandsFor, plain_data}
-use Rattle.packet_encode.specs.Forms.{Form, Part, data_bits, form_bits}
-use Rattle.packet_encode.specs.Packets.{form_at, form_of, with_next_input}
-use Rattle.packet_encode.proofs.Bounds.{form_bits-some}
-use Rattle.packet_encode.proofs.OfHistories.{form_of-most, form_of-same}
-use Rattle.packet_encode.proofs.Plain.{plain_bits, plain_form, plain_form-is}
+use Rattle.packet_encode.specs.Forms.{Form, Part, data_bits, form_bits, form_at, form_of, with_next_input}
+use Rattle.packet_encode.proofs.Packets.{form_bits-some, form_of-most, form_of-same, plain_bits, plain_form, plain_form-is}
 use Rattle.packet_encode.proofs.encoder.Encoder.encode.Goals as goal
 use Rattle.packet_encode.proofs.encoder.Encoder.encode.Goals.{After-takes_kept, After-put_level, After-put_pen}
 

@@ -2,7 +2,7 @@ use Rattle.std.proofs.Common.{ℕ, ◌+◌, ◌≤◌, List, [], length, arith, 
 use Rattle.state_bytes.specs.Parts.{Puts}
 use Rattle.state_bytes.proofs.Parts.{Puts-then}
 use Rattle.mask_update.specs.Saved.{running_before}
-use Rattle.mask_update.proofs.SavedMasks.{running_size, running_then}
+use Rattle.mask_update.proofs.Standing.{running_size, running_then}
 use Rattle.robust_window.specs.Saved.{window_bytes}
 use Rattle.robust_window.proofs.SavedWindows.{window_size}
 use Rattle.packet_encode.specs.Encoder.{EncoderState}

@@ -1,6 +1,6 @@
 use Rattle.std.proofs.Common.{◌≡◌, ◌+◌, ◌^◌, ◌<◌, true, Ok, refl, sym, ap, subst, ◌∙◌, arith}
 use Rattle.std.proofs.lemmas.Result.{err_from_is_err_and}
-use Rattle.desk_ports.specs.ReadAhead.{ReadsOn}
+use Rattle.desk_ports.specs.Meanings.{ReadsOn}
 use Rattle.packet_store.specs.declared.fault.WalkFault.TheVariants as fault
 use Rattle.packet_store.specs.StoreReader.{ReaderState, reader_state, TakesPacket, Stops, Waits, AfterFault}
 use Rattle.packet_store.specs.declared.reader.Taken.{Taken}

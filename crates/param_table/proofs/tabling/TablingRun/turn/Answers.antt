@@ -1,12 +1,11 @@
 use Rattle.std.proofs.Common.{ℕ, List, refl, ap, ◌+◌, length, subst, ◌∙◌}
 use Rattle.std.proofs.lemmas.Result.{err_from_is_err_and}
 use Rattle.desk_ports.specs.declared.desk.Outlet.TheVariants as outlet
-use Rattle.desk_ports.proofs.Steps.{AreReady-moved}
-use Rattle.desk_ports.specs.WalkWorks.{work_on}
-use Rattle.desk_ports.proofs.WalkTurns.{Advances-on, AfterStop-on, Finishes-on, IsCutShort-on, IsCutShort-end-on}
+use Rattle.desk_ports.proofs.Steps.{AreReady-moved, Advances-on, AfterStop-on, Finishes-on, IsCutShort-on, IsCutShort-end-on}
+use Rattle.desk_ports.specs.Courses.{work_on}
 use Rattle.desk_ports.specs.Turns.{Wrote, WroteFront}
 use Rattle.flight_chain.specs.Recordings.{walk_over}
-use Rattle.flight_chain.proofs.RecordTurns.{AfterWalk-recording, IsOver-recording, TakesItem-recording}
+use Rattle.flight_chain.proofs.CompressCourses.{AfterWalk-recording, IsOver-recording, TakesItem-recording}
 use Rattle.flight_chain.specs.Compressing.{stop_by}
 use Rattle.param_table.specs.declared.rows.Column.{Column}
 use Rattle.param_table.specs.declared.tabling.Tabling.{Tabling}

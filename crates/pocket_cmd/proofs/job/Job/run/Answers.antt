@@ -1,17 +1,15 @@
 use Rattle.side_tables.specs.Rows.{copies_of}
-use Rattle.packet_store.specs.Faults.{stop_by}
+use Rattle.packet_store.specs.StoreReader.{stop_by}
 use Rattle.flight_chain.specs.Compressing.{compress_course, stop_by as flight_stop}
 use Rattle.loss_player.specs.Playing.{play_course}
 use Rattle.ground_chain.specs.Listing.{listing_course}
 use Rattle.ground_chain.specs.Restoring.{restore_course}
 use Rattle.late_window.specs.Restoring.{late_course}
-use Rattle.forecast.specs.Outlooks.{foresees}
-use Rattle.forecast.specs.Texts.{forecast_text}
+use Rattle.forecast.specs.Outlooks.{foresees, forecast_text}
 use Rattle.multi_ground.specs.MultiOutputs.{multi_course}
 use Rattle.param_table.specs.Tabling.{table_course}
-use Rattle.pocket_cmd.specs.Faults.{of_recording, of_store}
-use Rattle.pocket_cmd.proofs.Faults.{HasClassCause-stop, IsEnded-done, IsEnded-stop}
-use Rattle.pocket_cmd.proofs.Texts.{IsEnded-text, IsEnded-text_cut}
+use Rattle.pocket_cmd.specs.Courses.{of_recording, of_store}
+use Rattle.pocket_cmd.proofs.Faults.{HasClassCause-stop, IsEnded-done, IsEnded-stop, IsEnded-text, IsEnded-text_cut}
 use Rattle.pocket_cmd.proofs.job.Job.run.Goals as goal
 
 pub returns-in-Ok-clause-ran : goal.returns-in-Ok-clause-ran

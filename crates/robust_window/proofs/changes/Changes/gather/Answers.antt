@@ -6,7 +6,7 @@ use Rattle.std.proofs.lemmas.List.Elements.{All-get_or}
 use Rattle.bit_vectors.specs.Vectors.{or_bits}
 use Rattle.robust_window.specs.Window.{LatestChanges, change_back, mark_back}
 use Rattle.robust_window.proofs.Marking.{latest-marked, latest-quiet}
-use Rattle.robust_window.proofs.Scanning.{gathered-some, gathered-more, gathered-none, gathered-quiet, gathered-zeros}
+use Rattle.robust_window.proofs.Standing.{gathered-some, gathered-more, gathered-none, gathered-quiet, gathered-zeros}
 use Rattle.robust_window.proofs.changes.Changes.gather.Goals as goal
 use Rattle.robust_window.proofs.changes.Changes.gather.Goals.{then-is_set, else-is_set}
 

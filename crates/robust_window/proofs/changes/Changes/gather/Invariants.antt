@@ -1,7 +1,7 @@
 use Rattle.std.proofs.Common.{◌≡◌, false, true, length, replicate}
 use Rattle.std.specs.Bool.{OnFalse, OnTrue}
 use Rattle.std.specs.Prelude.{Contains}
-use Rattle.robust_window.proofs.Scanning.{gathered}
+use Rattle.robust_window.proofs.Standing.{gathered}
 use Rattle.robust_window.proofs.changes.Changes.gather.Given as goal
 
 abbrev pub invariant-loop-back : goal.invariant-loop-back

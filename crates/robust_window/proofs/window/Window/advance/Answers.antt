@@ -3,7 +3,7 @@ use Rattle.std.specs.Prelude.{Contains}
 use Rattle.std.specs.Bool.{OnTrue}
 use Rattle.robust_window.specs.Window.{WindowState, change_back}
 use Rattle.robust_window.proofs.Marking.{length-marks}
-use Rattle.robust_window.proofs.Scanning.{gathered, length-gathered}
+use Rattle.robust_window.proofs.Standing.{gathered, length-gathered}
 use Rattle.robust_window.proofs.window.Window.advance.Goals as goal
 use Rattle.robust_window.proofs.window.Window.advance.Goals.{After-gather-self-inside}
 

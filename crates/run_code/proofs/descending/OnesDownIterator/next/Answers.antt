@@ -1,5 +1,5 @@
 use Rattle.std.proofs.Common.{sym, ◌∙◌, lt-suc_self}
-use Rattle.run_code.proofs.OnesLeft.{next_left}
+use Rattle.run_code.proofs.Gathering.{next_left}
 use Rattle.run_code.proofs.descending.OnesDownIterator.next.Goals as goal
 
 pub returns-clause-steps : goal.returns-clause-steps

@@ -2,7 +2,7 @@ use Rattle.std.proofs.Common.{◌≡◌, ◌+◌, ◌*◌, ◌%◌, ◌^◌, ◌
 use Rattle.std.proofs.lemmas.Nat.{shl_whole, pow-add}
 use Rattle.std.proofs.Math.Nat.{pow-le-pow_right}
 use Rattle.bit_vectors.specs.Vectors.{number_bits}
-use Rattle.bit_vectors.proofs.Numbers.{number_bits-cat}
+use Rattle.bit_vectors.proofs.NumberBits.{number_bits-cat}
 use Rattle.count_code.proofs.CountWords.{count_bits-one, zero_in_one}
 use Rattle.run_code.proofs.Gathering.{fits_word}
 use Rattle.run_code.proofs.held.Held.with_count.Goals as goal

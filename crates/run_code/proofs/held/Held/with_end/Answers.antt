@@ -1,7 +1,7 @@
 use Rattle.std.proofs.Common.{◌≡◌, ◌*◌, ◌%◌, ◌^◌, ◌<◌, ◌≤◌, ◌++◌, ℕ, Bool, List, ap, ◌∙◌, arith}
 use Rattle.std.proofs.lemmas.Nat.{shl_whole, pow-add}
 use Rattle.bit_vectors.specs.Vectors.{number_bits}
-use Rattle.bit_vectors.proofs.Numbers.{number_bits-cat}
+use Rattle.bit_vectors.proofs.NumberBits.{number_bits-cat}
 use Rattle.count_code.proofs.CountWords.{two_in_two}
 use Rattle.run_code.proofs.held.Held.with_end.Goals as goal
 

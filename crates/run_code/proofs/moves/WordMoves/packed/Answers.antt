@@ -1,5 +1,5 @@
 use Rattle.std.proofs.Common.{◌≡◌, ◌∙◌, arith}
-use Rattle.run_code.specs.Places.{AreZeroCounts}
+use Rattle.run_code.specs.Extraction.{AreZeroCounts}
 use Rattle.run_code.proofs.BitMoves.{ArePacked, packed_six, packed_bits, packed_below}
 use Rattle.run_code.proofs.moves.WordMoves.packed.Goals as goal
 use Rattle.run_code.proofs.moves.WordMoves.packed.Goals.{After-lowered}

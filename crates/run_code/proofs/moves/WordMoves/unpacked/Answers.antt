@@ -1,5 +1,5 @@
 use Rattle.std.proofs.Common.{◌≡◌, ◌∙◌}
-use Rattle.run_code.specs.Places.{AreZeroCounts}
+use Rattle.run_code.specs.Extraction.{AreZeroCounts}
 use Rattle.run_code.proofs.BitMoves.{laid_six, laid_all}
 use Rattle.run_code.proofs.moves.WordMoves.unpacked.Goals as goal
 

@@ -1,7 +1,7 @@
 use Rattle.std.proofs.Common.{◌≡◌, ℕ, ◌++◌, List, All, length, take, drop, ◌∙◌, sym, ap, append-nil, subst, arith}
 use Rattle.std.proofs.lemmas.List.{drop_all, take_all}
 use Rattle.std.proofs.lemmas.List.Sorted.{All-permutation, IsPermutation-sym}
-use Rattle.side_tables.specs.Spans.{IsSpan}
+use Rattle.side_tables.specs.Rows.{IsSpan}
 use Rattle.side_tables.specs.Ranks.{AreRanks, IsBlock}
 use Rattle.side_tables.specs.declared.claims.Claim.{Claim}
 use Rattle.side_tables.specs.declared.ranks.Cell.{Cell}

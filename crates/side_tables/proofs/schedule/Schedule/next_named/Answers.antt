@@ -2,7 +2,7 @@ use Rattle.std.proofs.Common.{ap, arith}
 use Rattle.std.specs.Option.{option_map}
 use Rattle.side_tables.specs.declared.rows.RobustRow.{RobustRow}
 use Rattle.side_tables.specs.Rows.{robust_span}
-use Rattle.side_tables.proofs.Places.{flags_of-none, last_row-none}
+use Rattle.side_tables.proofs.Claimed.{flags_of-none, last_row-none}
 use Rattle.side_tables.proofs.schedule.Schedule.next_named.Goals as goal
 
 pub returns-clause-nothing : goal.returns-clause-nothing

@@ -2,7 +2,7 @@ use Rattle.std.proofs.Common.{◌≡◌, ℕ, ◌<◌, ◌≤◌, ◌+◌, ◌-�
 use Rattle.std.proofs.Math.Nat.{add-mod_right, div-add-mod, mod-eq_of_lt, mul-mod_right}
 use Rattle.std.proofs.lemmas.Bool.{cases_lt, false_from_ne_true}
 use Rattle.std.proofs.lemmas.Nat.{mod_below}
-use Rattle.side_tables.specs.Spans.{names}
+use Rattle.side_tables.specs.Rows.{names}
 use Rattle.side_tables.specs.declared.span.Span.{Span}
 use Rattle.side_tables.proofs.Claimed.{IsNamed, named-from, named-parts, steps_between}
 use Rattle.side_tables.proofs.span.Span.next.Goals as goal

@@ -1,8 +1,7 @@
 use Rattle.std.proofs.Common.{◌≡◌, ℕ, ◌+◌, ◌∙◌, Bool, true, false, cond, List, [], ◌∷◌, ◌++◌, All, Some, take, refl, ap, subst, sym}
 use Rattle.std.proofs.lemmas.List.{reverse-append, take_more}
 use Rattle.std.proofs.lemmas.List.Elements.{All-get_or}
-use Rattle.side_tables.specs.Rows.{last_row}
-use Rattle.side_tables.specs.Spans.{names}
+use Rattle.side_tables.specs.Rows.{last_row, names}
 use Rattle.side_tables.specs.declared.span.Span.{Span}
 use Rattle.side_tables.proofs.table.Table.latest.Goals as goal
 use Rattle.side_tables.proofs.table.Table.latest.Goals.{then-names, else-names}

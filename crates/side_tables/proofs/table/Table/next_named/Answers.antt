@@ -1,7 +1,7 @@
 use Rattle.std.proofs.Common.{◌≡◌, ◌+◌, [], ◌∷◌, ◌++◌, ℕ, ◌<◌, ◌≤◌, All, false, take, sym, ap, ◌∙◌, subst, arith}
 use Rattle.std.proofs.lemmas.List.{take_all, take_more}
 use Rattle.std.proofs.lemmas.List.Elements.{All-push}
-use Rattle.side_tables.specs.Spans.{names}
+use Rattle.side_tables.specs.Rows.{names}
 use Rattle.side_tables.specs.declared.span.Span.{Span}
 use Rattle.side_tables.proofs.table.Table.next_named.Goals as goal
 use Rattle.side_tables.proofs.table.Table.next_named.Goals.{in-Some, in-None}

@@ -1,5 +1,5 @@
 use Rattle.std.proofs.Common.{◌≡◌, ℕ, ◌<◌, ◌≤◌, false, All, take}
-use Rattle.side_tables.specs.Spans.{names}
+use Rattle.side_tables.specs.Rows.{names}
 use Rattle.side_tables.proofs.table.Table.next_named.Given as goal
 
 -- from the number asked for, up to this one, no row so far names a number

@@ -5,10 +5,9 @@ use Rattle.desk_ports.specs.Courses.{owed, texts_of}
 use Rattle.desk_ports.specs.Meanings.{kept_at}
 use Rattle.desk_ports.specs.MemState.{MemState}
 use Rattle.flight_chain.specs.Compressing.{compress_course}
-use Rattle.trial_chain.specs.RunDesk.{HoldsJust}
-use Rattle.trial_chain.specs.Stages.{held_store, recording_name, store_name}
+use Rattle.trial_chain.specs.Stages.{HoldsJust, held_store, recording_name, store_name}
 use Rattle.trial_chain.specs.Trials.{trial_recording}
-use Rattle.trial_chain.proofs.TrialRuns.{whole-recording}
+use Rattle.trial_chain.proofs.TrialHistories.{whole-recording}
 use Rattle.trial_chain.proofs.TrialHeld.{IsSome-here, held-compressed, kept-recording}
 use Rattle.trial_chain.proofs.generated.Trial.compress.Goals as goal
 

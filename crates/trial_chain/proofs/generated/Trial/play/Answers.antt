@@ -6,10 +6,9 @@ use Rattle.side_tables.specs.Rows.{copies_of}
 use Rattle.packet_store.specs.Walks.{walk}
 use Rattle.loss_player.specs.Played.{played_of, store_numbers}
 use Rattle.loss_player.specs.Playing.{PlayerState, play_course}
-use Rattle.trial_chain.specs.RunDesk.{HoldsJust}
-use Rattle.trial_chain.specs.Stages.{held_played, held_recording, play_name, played_name, store_name, trial_store, with_outputs}
+use Rattle.trial_chain.specs.Stages.{HoldsJust, held_played, held_recording, play_name, played_name, store_name, trial_store, with_outputs}
 use Rattle.trial_chain.specs.Trials.{trial_copies}
-use Rattle.trial_chain.proofs.TrialRuns.{numbers-store, whole-store}
+use Rattle.trial_chain.proofs.TrialHistories.{numbers-store, whole-store}
 use Rattle.trial_chain.proofs.TrialHeld.{IsSome-here, held-played, kept-store, same-copies}
 use Rattle.trial_chain.proofs.generated.Trial.play.Goals as goal
 

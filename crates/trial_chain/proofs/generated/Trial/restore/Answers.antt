@@ -8,7 +8,7 @@ use Rattle.ground_chain.specs.Report.{restored_of}
 use Rattle.ground_chain.specs.Restoring.{RestorerState, restore_course, store_run}
 use Rattle.trial_chain.specs.Stages.{held_restored, played_name, report_name, restored_name, with_outputs}
 use Rattle.trial_chain.specs.Trials.{trial_copies, trial_history}
-use Rattle.trial_chain.proofs.TrialRuns.{numbers-restored, whole-played}
+use Rattle.trial_chain.proofs.TrialHistories.{numbers-restored, whole-played}
 use Rattle.trial_chain.proofs.TrialHeld.{IsSome-played, held-restored, kept-played}
 use Rattle.trial_chain.proofs.generated.Trial.restore.Goals as goal
 

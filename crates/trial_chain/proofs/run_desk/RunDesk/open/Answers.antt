@@ -1,8 +1,8 @@
 use Rattle.std.proofs.Common.{subst}
 use Rattle.desk_ports.specs.declared.desk.Inlet.TheVariants as inlet
 use Rattle.desk_ports.specs.Meanings.{Opens}
-use Rattle.trial_chain.specs.RunDesk.{RunState, run_meanings}
-use Rattle.trial_chain.proofs.RunDesks.{run_opened-is}
+use Rattle.trial_chain.specs.Stages.{RunState, run_meanings}
+use Rattle.trial_chain.proofs.TrialHeld.{run_opened-is}
 use Rattle.trial_chain.proofs.run_desk.RunDesk.open.Goals as goal
 
 pub returns : goal.returns

@@ -3,9 +3,9 @@ use Rattle.std.proofs.lemmas.Result.{on_ok_weaker, on_err_weaker}
 use Rattle.std.specs.Str.{bytes_eq}
 use Rattle.desk_ports.specs.MemState.{mem_meanings}
 use Rattle.desk_ports.specs.Meanings.{Keeps}
-use Rattle.trial_chain.specs.RunDesk.{RunState, run_meanings}
-use Rattle.desk_ports.proofs.Granting.{granting, Keeps-granting}
-use Rattle.trial_chain.proofs.RunDesks.{IsRunDesk-finish}
+use Rattle.trial_chain.specs.Stages.{RunState, run_meanings}
+use Rattle.desk_ports.proofs.Desks.{granting, Keeps-granting}
+use Rattle.trial_chain.proofs.TrialHeld.{IsRunDesk-finish}
 use Rattle.trial_chain.proofs.run_desk.RunDeskDesk.finish.Goals as goal
 
 pub invariant_of-self : goal.invariant_of-self

@@ -3,8 +3,8 @@ use Rattle.std.proofs.lemmas.Result.{on_ok_weaker, on_err_weaker}
 use Rattle.std.specs.Str.{bytes_eq}
 use Rattle.desk_ports.specs.MemState.{mem_meanings}
 use Rattle.desk_ports.specs.Meanings.{Begins}
-use Rattle.trial_chain.specs.RunDesk.{RunState, run_meanings}
-use Rattle.desk_ports.proofs.Granting.{granting, Begins-granting}
+use Rattle.trial_chain.specs.Stages.{RunState, run_meanings}
+use Rattle.desk_ports.proofs.Desks.{granting, Begins-granting}
 use Rattle.trial_chain.proofs.run_desk.RunDeskDesk.open_out.Goals as goal
 
 pub returns-clause-opened : goal.returns-clause-opened

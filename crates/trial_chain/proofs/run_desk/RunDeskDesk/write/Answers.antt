@@ -3,8 +3,8 @@ use Rattle.std.proofs.lemmas.Result.{IfOk-weaker}
 use Rattle.std.specs.Str.{bytes_eq}
 use Rattle.desk_ports.specs.MemState.{mem_meanings}
 use Rattle.desk_ports.specs.Meanings.{Adds}
-use Rattle.trial_chain.specs.RunDesk.{RunState, run_meanings}
-use Rattle.desk_ports.proofs.Granting.{granting, Adds-granting}
+use Rattle.trial_chain.specs.Stages.{RunState, run_meanings}
+use Rattle.desk_ports.proofs.Desks.{granting, Adds-granting}
 use Rattle.trial_chain.proofs.run_desk.RunDeskDesk.write.Goals as goal
 
 pub returns-clause-added : goal.returns-clause-added
