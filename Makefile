@@ -11,7 +11,8 @@
 # make page: the operator's page, page/pocket.html, one file that a browser opens from disk. It takes the toolchain, the gate's libraries
 #   (crates/*/out/rlib) and Debian's binaryen and esbuild.
 # make dist: the files for those who have no toolchain, in the folder DIST: pocket.c and pocket.h (the calls of a sender and a receiver, for
-#   any processor), pocket-program.c (the program), pocket.html (the page). It takes what `make page` takes, and Debian's wabt.
+#   any processor), pocket-program.c (the program), pocket.html (the page). It takes what `make page` takes, Debian's wabt, and
+#   the gate's program, which tells its helps.
 # make quick: lays out and checks the crates that were changed since BASE=origin/main, and tries the linters and the documents; make hook: has
 #   git do so before each push.
 # make check: tests/ over the proved program and library (CONTRIBUTING.md). make clean: removes what was built.
@@ -113,7 +114,7 @@ $(MODULE): $(wildcard crates/*/src/*.rt crates/*/src/*/*.rt) crates.txt library/
 page/out/pocket.wasm: $(MODULE) library/module.py library/retarget.py
 	python3 library/module.py $< $@
 
-page/pocket.html: page/out/pocket.wasm page/make.py page/page.html page/style.css $(wildcard page/data/*.js page/views/*.js page/worker/*.js)
+page/pocket.html: page/out/pocket.wasm page/make.py page/page.html page/style.css $(wildcard page/data/*.js page/views/*.js page/worker/*.js crates/pocket/data/*.csv)
 	python3 page/make.py $<
 
 page: page/pocket.html

@@ -1,7 +1,7 @@
 -- Reading the first part of a packet is exact: the recent changes, the level, and the directions or none.
 use Rattle.std.specs.List.{list_any}
 use Rattle.std.specs.Prelude.{◌&&◌, IfSome, Contains}
-use Rattle.std.proofs.Common.{◌≡◌, ℕ, ◌<◌, ltb, Bool, true, false, cond, List, [], ◌∷◌, ◌++◌, length, Option, Some, None, refl, sym, ap, ◌∙◌, subst, arith, replicate, take, drop, zero, suc}
+use Rattle.std.proofs.Common.{◌≡◌, ℕ, ◌<◌, ltb, Bool, true, false, cond, List, [], ◌∷◌, ◌++◌, length, Option, Some, None, refl, sym, ap, ◌∙◌, subst, arith, replicate, take, drop}
 use Rattle.std.proofs.lemmas.Bool.{true≢false, ltb-true, lt-ltb, false≢true}
 use Rattle.std.proofs.lemmas.List.{get_or_default, take-append-drop}
 use Rattle.std.proofs.lemmas.List.Folds.{list_any_at}
