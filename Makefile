@@ -114,7 +114,7 @@ $(MODULE): $(wildcard crates/*/src/*.rt crates/*/src/*/*.rt) crates.txt library/
 page/out/pocket.wasm: $(MODULE) library/module.py library/retarget.py
 	python3 library/module.py $< $@
 
-page/pocket.html: page/out/pocket.wasm page/make.py page/page.html page/style.css $(wildcard page/data/*.js page/views/*.js page/worker/*.js crates/pocket/data/*.csv)
+page/pocket.html: page/out/pocket.wasm page/make.py page/page.html page/style.css $(wildcard page/*/*.js crates/pocket/data/*.csv)
 	python3 page/make.py $<
 
 page: page/pocket.html

@@ -1,4 +1,4 @@
-//! Tests of the codec's crates, by their public calls, and no code: so each of these crates is proved once.
+//! Tests of the crates below the command, by their public calls, and no code: so each of these crates is proved once.
 #![tactic(auto)]
 
 #[cfg(test)]

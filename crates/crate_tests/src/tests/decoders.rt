@@ -138,15 +138,21 @@ fn shown(alloc: Global, decoder: &Decoder) -> Result<String, AllocError> {
     )
 }
 
-fn is_right(alloc: Global, run: &str) -> Result<bool, Fail> {
-    let mut decoder = Decoder::open(alloc, 8)?;
+/// Whether the packets of a run have their answers, and the decoder shows then what stands at its end.
+fn follows(alloc: Global, decoder: &mut Decoder, run: &str) -> Result<bool, Fail> {
     let (packets, end) = run.rsplit_once('|').unwrap_or(("", run));
     for packet in packets.split('|') {
-        if !is_answered(alloc, &mut decoder, packet)? {
+        if !is_answered(alloc, decoder, packet)? {
             return Ok(false);
         }
     }
-    Ok(shown(alloc, &decoder)?.as_str() == end)
+    Ok(shown(alloc, decoder)?.as_str() == end)
+}
+
+// (What has a decoder of its own does nothing else: each way out of it is proved to give back all memory.)
+fn is_right(alloc: Global, run: &str) -> Result<bool, Fail> {
+    let mut decoder = Decoder::open(alloc, 8)?;
+    follows(alloc, &mut decoder, run)
 }
 
 #[test]

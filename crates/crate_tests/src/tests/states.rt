@@ -33,16 +33,6 @@ fn has_state(receiver: &Receiver, state: &[u8]) -> bool {
     }
 }
 
-// A receiver at which packet 0, packet 2 and packet 3 arrived, and whether the second alone was not written.
-fn after_three(alloc: Global) -> Result<(Receiver, bool), OpenFault> {
-    let mut out = [0; 1];
-    let mut receiver = Receiver::open(alloc, 8)?;
-    let first = is_written(&mut receiver, 0, &[0x85, 0xB8, 0xD6, 0x00], &mut out);
-    let second = is_written(&mut receiver, 2, &[0x82], &mut out);
-    let third = is_written(&mut receiver, 3, &[0x8A], &mut out);
-    Ok((receiver, first && !second && third))
-}
-
 fn is_written(receiver: &mut Receiver, count: u16, bytes: &[u8], out: &mut [u8]) -> bool {
     match receiver.receive(count, bytes, out) {
         Ok(verdict) => verdict.kind.is_written(),
@@ -50,41 +40,68 @@ fn is_written(receiver: &mut Receiver, count: u16, bytes: &[u8], out: &mut [u8])
     }
 }
 
-// Whether the worked states are saved and taken up, and the receiver goes on.
-fn worked_states_are_right(alloc: Global) -> Result<bool, OpenFault> {
-    let (receiver, are_judged) = after_three(alloc)?;
-    let is_saved = has_state(&receiver, &JUDGED);
-    let mut other = Receiver::open(alloc, 8)?;
-    let is_fresh = has_state(&other, &FRESH);
-    let is_loaded = other.load(&JUDGED).is_ok() && has_state(&other, &JUDGED);
+// Whether packet 0, packet 2 and packet 3 are written, all but the second, and the state is saved then.
+fn saves_its_state(receiver: &mut Receiver) -> bool {
     let mut out = [0; 1];
-    let goes_on = is_written(&mut other, 4, &[0x82], &mut out) && out == [0xB0];
-    let is_reset = other.load(&FRESH).is_ok() && has_state(&other, &FRESH);
-    Ok(are_judged && is_saved && is_fresh && is_loaded && goes_on && is_reset)
+    let first = is_written(receiver, 0, &[0x85, 0xB8, 0xD6, 0x00], &mut out);
+    let second = is_written(receiver, 2, &[0x82], &mut out);
+    let third = is_written(receiver, 3, &[0x8A], &mut out);
+    first && !second && third && has_state(receiver, &JUDGED)
 }
 
-// Whether no byte of the state can be left out, and no bit turned, and nothing has changed then.
-fn other_bytes_are_refused(alloc: Global) -> Result<bool, OpenFault> {
-    let mut receiver = Receiver::open(alloc, 8)?;
+// Whether the worked states are taken up, and the receiver goes on.
+fn takes_states(receiver: &mut Receiver) -> bool {
+    let is_fresh = has_state(receiver, &FRESH);
+    let is_loaded = receiver.load(&JUDGED).is_ok() && has_state(receiver, &JUDGED);
+    let mut out = [0; 1];
+    let goes_on = is_written(receiver, 4, &[0x82], &mut out) && out == [0xB0];
+    let is_reset = receiver.load(&FRESH).is_ok() && has_state(receiver, &FRESH);
+    is_fresh && is_loaded && goes_on && is_reset
+}
+
+// Whether no byte of the state can be left out.
+fn refuses_fronts(receiver: &mut Receiver) -> bool {
     for size in 0..75 {
         if receiver.load(&JUDGED[..size]).is_ok() {
-            return Ok(false);
+            return false;
         }
     }
+    true
+}
+
+// Whether no bit of it can be turned.
+fn refuses_turned(receiver: &mut Receiver) -> bool {
     for place in 0..600 {
         let mut turned = JUDGED;
         turned[place / 8] ^= 1 << (place % 8);
         if receiver.load(&turned).is_ok() {
-            return Ok(false);
+            return false;
         }
     }
-    Ok(has_state(&receiver, &FRESH))
+    true
+}
+
+// Whether other bytes are refused, after which nothing has changed, and the states are taken up.
+fn knows_states(receiver: &mut Receiver) -> bool {
+    let are_refused = refuses_fronts(receiver) && refuses_turned(receiver);
+    are_refused && takes_states(receiver)
+}
+
+// (What has a receiver of its own does nothing else: each way out of it is proved to give back all memory.)
+fn receiver_saves(alloc: Global) -> Result<bool, OpenFault> {
+    let mut receiver = Receiver::open(alloc, 8)?;
+    Ok(saves_its_state(&mut receiver))
+}
+
+fn receiver_loads(alloc: Global) -> Result<bool, OpenFault> {
+    let mut receiver = Receiver::open(alloc, 8)?;
+    Ok(knows_states(&mut receiver))
 }
 
 #[test]
 fn states_of_receivers(rt: HostRuntime) -> Result<(), Fail> {
-    assert!(rt; worked_states_are_right(rt.alloc())?);
-    assert!(rt; other_bytes_are_refused(rt.alloc())?);
+    assert!(rt; receiver_saves(rt.alloc())?);
+    assert!(rt; receiver_loads(rt.alloc())?);
     Ok(())
 }
 
@@ -122,40 +139,64 @@ fn is_sent(sender: &mut Sender, input: u8, new_mask: bool) -> bool {
     sender.send(&[input], flags, 1, &mut out).is_ok()
 }
 
-// Whether the worked states are saved and taken up.
-fn senders_have_their_states(alloc: Global) -> Result<bool, OpenFault> {
-    let mut sender = Sender::open(alloc, 8, None)?;
-    let first = is_sent(&mut sender, 0xB0, false) && is_sent(&mut sender, 0xB1, false);
-    let second = is_sent(&mut sender, 0xB0, true) && is_sent(&mut sender, 0xB0, false);
-    let is_saved = first && second && is_state_of(&sender, &SENT);
-    let mut other = Sender::open(alloc, 8, Some(&[0x0F]))?;
-    let is_fresh = is_state_of(&other, &UNSENT);
-    let is_loaded = other.load(&SENT).is_ok() && is_state_of(&other, &SENT);
-    let is_reset = other.load(&UNSENT).is_ok() && is_state_of(&other, &UNSENT);
-    Ok(is_saved && is_fresh && is_loaded && is_reset)
+// Whether four packets are sent, and the state is saved then.
+fn saves_its_own(sender: &mut Sender) -> bool {
+    let first = is_sent(sender, 0xB0, false) && is_sent(sender, 0xB1, false);
+    let second = is_sent(sender, 0xB0, true) && is_sent(sender, 0xB0, false);
+    first && second && is_state_of(sender, &SENT)
 }
 
-// Whether no byte of the state can be left out, and no bit turned, and nothing has changed then; and it is no receiver's.
-fn senders_refuse_other_bytes(alloc: Global) -> Result<bool, OpenFault> {
-    let mut sender = Sender::open(alloc, 8, Some(&[0x0F]))?;
+// Whether the worked states are taken up.
+fn takes_its_own(sender: &mut Sender) -> bool {
+    let is_fresh = is_state_of(sender, &UNSENT);
+    let is_loaded = sender.load(&SENT).is_ok() && is_state_of(sender, &SENT);
+    let is_reset = sender.load(&UNSENT).is_ok() && is_state_of(sender, &UNSENT);
+    is_fresh && is_loaded && is_reset
+}
+
+// Whether no byte of the state can be left out.
+fn refuses_its_fronts(sender: &mut Sender) -> bool {
     for size in 0..50 {
         if sender.load(&SENT[..size]).is_ok() {
-            return Ok(false);
+            return false;
         }
     }
+    true
+}
+
+// Whether no bit of it can be turned.
+fn refuses_its_turned(sender: &mut Sender) -> bool {
     for place in 0..400 {
         let mut turned = SENT;
         turned[place / 8] ^= 1 << (place % 8);
         if sender.load(&turned).is_ok() {
-            return Ok(false);
+            return false;
         }
     }
-    Ok(sender.load(&JUDGED).is_err() && is_state_of(&sender, &UNSENT))
+    true
+}
+
+// Whether other bytes are refused, a receiver's state too, after which nothing has changed, and the states are taken up.
+fn knows_its_own(sender: &mut Sender) -> bool {
+    let are_refused = refuses_its_fronts(sender)
+        && refuses_its_turned(sender)
+        && sender.load(&JUDGED).is_err();
+    are_refused && takes_its_own(sender)
+}
+
+fn sender_saves(alloc: Global) -> Result<bool, OpenFault> {
+    let mut sender = Sender::open(alloc, 8, None)?;
+    Ok(saves_its_own(&mut sender))
+}
+
+fn sender_loads(alloc: Global) -> Result<bool, OpenFault> {
+    let mut sender = Sender::open(alloc, 8, Some(&[0x0F]))?;
+    Ok(knows_its_own(&mut sender))
 }
 
 #[test]
 fn states_of_senders(rt: HostRuntime) -> Result<(), Fail> {
-    assert!(rt; senders_have_their_states(rt.alloc())?);
-    assert!(rt; senders_refuse_other_bytes(rt.alloc())?);
+    assert!(rt; sender_saves(rt.alloc())?);
+    assert!(rt; sender_loads(rt.alloc())?);
     Ok(())
 }
