@@ -288,49 +288,49 @@ static POCKET_MAYBE_UNUSED void set_broken(u8 *m) {
 #define AT(address, by) ((address) + (u32)((u32)(by) - (u32)BASE))
 #define LOAD(bits, cast, to, address, by) do { const u32 offset = AT(address, by); CHECKED(offset, last) to = cast get##bits(m + offset); } while (0)
 #define STORE(bits, value, address, by) do { const u32 offset = AT(address, by); CHECKED(offset, last) put##bits(m + offset, (u##bits)(value)); } while (0)
-#define i32_load(to, address, by) LOAD(32, (u32), to, address, by)
-#define i32_load8_u(to, address, by) LOAD(8, (u32), to, address, by)
-#define i32_load8_s(to, address, by) LOAD(8, (u32)(s32)(s8), to, address, by)
-#define i32_load16_u(to, address, by) LOAD(16, (u32), to, address, by)
-#define i32_load16_s(to, address, by) LOAD(16, (u32)(s32)(s16), to, address, by)
-#define i64_load(to, address, by) LOAD(64, (u64), to, address, by)
-#define i64_load8_u(to, address, by) LOAD(8, (u64), to, address, by)
-#define i64_load8_s(to, address, by) LOAD(8, (u64)(s64)(s8), to, address, by)
-#define i64_load16_u(to, address, by) LOAD(16, (u64), to, address, by)
-#define i64_load16_s(to, address, by) LOAD(16, (u64)(s64)(s16), to, address, by)
-#define i64_load32_u(to, address, by) LOAD(32, (u64), to, address, by)
-#define i64_load32_s(to, address, by) LOAD(32, (u64)(s64)(s32), to, address, by)
-#define i32_store(value, address, by) STORE(32, value, address, by)
-#define i32_store8(value, address, by) STORE(8, value, address, by)
-#define i32_store16(value, address, by) STORE(16, value, address, by)
-#define i64_store(value, address, by) STORE(64, value, address, by)
-#define i64_store8(value, address, by) STORE(8, value, address, by)
-#define i64_store16(value, address, by) STORE(16, value, address, by)
-#define i64_store32(value, address, by) STORE(32, value, address, by)
 #define reach(to, address, by, more) do { \
         const u32 offset = AT(address, by); \
         CHECKED(offset, last - (u32)(more)) \
         to = m + offset; \
     } while (0)
-#define i32_load_at(to, at, by) to = get32((at) + (by))
-#define i32_load8_u_at(to, at, by) to = get8((at) + (by))
+#define i32_load8_u(to, address, by) LOAD(8, (u32), to, address, by)
+#define i32_load8_u_at(to, at, by) to = (u32)get8((at) + (by))
+#define i32_load8_s(to, address, by) LOAD(8, (u32)(s32)(s8), to, address, by)
 #define i32_load8_s_at(to, at, by) to = (u32)(s32)(s8)get8((at) + (by))
-#define i32_load16_u_at(to, at, by) to = get16((at) + (by))
+#define i32_store8(value, address, by) STORE(8, value, address, by)
+#define i32_store8_at(value, at, by) put8((at) + (by), (u8)(value))
+#define i32_load16_u(to, address, by) LOAD(16, (u32), to, address, by)
+#define i32_load16_u_at(to, at, by) to = (u32)get16((at) + (by))
+#define i32_load16_s(to, address, by) LOAD(16, (u32)(s32)(s16), to, address, by)
 #define i32_load16_s_at(to, at, by) to = (u32)(s32)(s16)get16((at) + (by))
-#define i64_load_at(to, at, by) to = get64((at) + (by))
-#define i64_load8_u_at(to, at, by) to = get8((at) + (by))
-#define i64_load8_s_at(to, at, by) to = (u64)(s64)(s8)get8((at) + (by))
-#define i64_load16_u_at(to, at, by) to = get16((at) + (by))
-#define i64_load16_s_at(to, at, by) to = (u64)(s64)(s16)get16((at) + (by))
-#define i64_load32_u_at(to, at, by) to = get32((at) + (by))
-#define i64_load32_s_at(to, at, by) to = (u64)(s64)(s32)get32((at) + (by))
-#define i32_store_at(value, at, by) put32((at) + (by), value)
-#define i32_store8_at(value, at, by) put8((at) + (by), value)
+#define i32_store16(value, address, by) STORE(16, value, address, by)
 #define i32_store16_at(value, at, by) put16((at) + (by), (u16)(value))
-#define i64_store_at(value, at, by) put64((at) + (by), value)
-#define i64_store8_at(value, at, by) put8((at) + (by), value)
+#define i32_load(to, address, by) LOAD(32, (u32), to, address, by)
+#define i32_load_at(to, at, by) to = (u32)get32((at) + (by))
+#define i32_store(value, address, by) STORE(32, value, address, by)
+#define i32_store_at(value, at, by) put32((at) + (by), (u32)(value))
+#define i64_load8_u(to, address, by) LOAD(8, (u64), to, address, by)
+#define i64_load8_u_at(to, at, by) to = (u64)get8((at) + (by))
+#define i64_load8_s(to, address, by) LOAD(8, (u64)(s64)(s8), to, address, by)
+#define i64_load8_s_at(to, at, by) to = (u64)(s64)(s8)get8((at) + (by))
+#define i64_store8(value, address, by) STORE(8, value, address, by)
+#define i64_store8_at(value, at, by) put8((at) + (by), (u8)(value))
+#define i64_load16_u(to, address, by) LOAD(16, (u64), to, address, by)
+#define i64_load16_u_at(to, at, by) to = (u64)get16((at) + (by))
+#define i64_load16_s(to, address, by) LOAD(16, (u64)(s64)(s16), to, address, by)
+#define i64_load16_s_at(to, at, by) to = (u64)(s64)(s16)get16((at) + (by))
+#define i64_store16(value, address, by) STORE(16, value, address, by)
 #define i64_store16_at(value, at, by) put16((at) + (by), (u16)(value))
+#define i64_load32_u(to, address, by) LOAD(32, (u64), to, address, by)
+#define i64_load32_u_at(to, at, by) to = (u64)get32((at) + (by))
+#define i64_load32_s(to, address, by) LOAD(32, (u64)(s64)(s32), to, address, by)
+#define i64_load32_s_at(to, at, by) to = (u64)(s64)(s32)get32((at) + (by))
+#define i64_store32(value, address, by) STORE(32, value, address, by)
 #define i64_store32_at(value, at, by) put32((at) + (by), (u32)(value))
+#define i64_load(to, address, by) LOAD(64, (u64), to, address, by)
+#define i64_load_at(to, at, by) to = (u64)get64((at) + (by))
+#define i64_store(value, address, by) STORE(64, value, address, by)
+#define i64_store_at(value, at, by) put64((at) + (by), (u64)(value))
 
 /* The accesses by one pointer lie within 256 bytes, and a block has more. */
 typedef char joined_accesses_fit[STACK_BYTES > 256 ? 1 : -1];
@@ -116526,7 +116526,7 @@ static bool write_whole(int to, const u8 *bytes, size_t length) {
 }
 
 /* An output that was opened: what it is written to, and the part beside its name that takes the name, if it has one. While an earlier
-   part stands that is still to be replaced, nothing is open. */
+   part stands that is still to be replaced, nothing is open. `of` is that of the part or of standard output, and else zeros. */
 struct sink {
     int to;
     bool has_mode;
@@ -116543,15 +116543,10 @@ static bool concerns(const struct sink *other, const struct stat *of) {
     return are_one(&other->of, of) || (stat(other->target, &standing) == 0 && are_one(&standing, of));
 }
 
-/* Whether a file is what the other output is written to: its part, or standard output. */
-static bool is_taken(const struct sink *other, const struct stat *of) {
-    return other != NULL && (other->part != NULL || other->to == 1) && are_one(&other->of, of);
-}
-
 /* Whether a file under the name of a part is an earlier part, which may be replaced. */
 static bool is_earlier(const struct stat *standing, const struct sink *other) {
     struct stat standard;
-    if (!S_ISREG(standing->st_mode) || was_read(standing) || is_taken(other, standing) || concerns(other, standing))
+    if (!S_ISREG(standing->st_mode) || was_read(standing) || concerns(other, standing))
         return false;
     return fstat(1, &standard) != 0 || !are_one(&standard, standing);
 }
@@ -116608,7 +116603,7 @@ static bool opens(const char *name, const struct sink *other, struct sink *sink)
     if (!S_ISREG(standing.st_mode))
         return true;
     close(sink->to);
-    return !was_read(&standing) && !is_taken(other, &standing) && opens_part(name, &standing, other, sink);
+    return !was_read(&standing) && (other == NULL || !are_one(&other->of, &standing)) && opens_part(name, &standing, other, sink);
 }
 
 static bool takes_name(const struct sink *sink) {

@@ -178,49 +178,49 @@ static POCKET_MAYBE_UNUSED void set_broken(u8 *m) {
 #define AT(address, by) ((address) + (u32)((u32)(by) - (u32)BASE))
 #define LOAD(bits, cast, to, address, by) do { const u32 offset = AT(address, by); CHECKED(offset, last) to = cast get##bits(m + offset); } while (0)
 #define STORE(bits, value, address, by) do { const u32 offset = AT(address, by); CHECKED(offset, last) put##bits(m + offset, (u##bits)(value)); } while (0)
-#define i32_load(to, address, by) LOAD(32, (u32), to, address, by)
-#define i32_load8_u(to, address, by) LOAD(8, (u32), to, address, by)
-#define i32_load8_s(to, address, by) LOAD(8, (u32)(s32)(s8), to, address, by)
-#define i32_load16_u(to, address, by) LOAD(16, (u32), to, address, by)
-#define i32_load16_s(to, address, by) LOAD(16, (u32)(s32)(s16), to, address, by)
-#define i64_load(to, address, by) LOAD(64, (u64), to, address, by)
-#define i64_load8_u(to, address, by) LOAD(8, (u64), to, address, by)
-#define i64_load8_s(to, address, by) LOAD(8, (u64)(s64)(s8), to, address, by)
-#define i64_load16_u(to, address, by) LOAD(16, (u64), to, address, by)
-#define i64_load16_s(to, address, by) LOAD(16, (u64)(s64)(s16), to, address, by)
-#define i64_load32_u(to, address, by) LOAD(32, (u64), to, address, by)
-#define i64_load32_s(to, address, by) LOAD(32, (u64)(s64)(s32), to, address, by)
-#define i32_store(value, address, by) STORE(32, value, address, by)
-#define i32_store8(value, address, by) STORE(8, value, address, by)
-#define i32_store16(value, address, by) STORE(16, value, address, by)
-#define i64_store(value, address, by) STORE(64, value, address, by)
-#define i64_store8(value, address, by) STORE(8, value, address, by)
-#define i64_store16(value, address, by) STORE(16, value, address, by)
-#define i64_store32(value, address, by) STORE(32, value, address, by)
 #define reach(to, address, by, more) do { \
         const u32 offset = AT(address, by); \
         CHECKED(offset, last - (u32)(more)) \
         to = m + offset; \
     } while (0)
-#define i32_load_at(to, at, by) to = get32((at) + (by))
-#define i32_load8_u_at(to, at, by) to = get8((at) + (by))
+#define i32_load8_u(to, address, by) LOAD(8, (u32), to, address, by)
+#define i32_load8_u_at(to, at, by) to = (u32)get8((at) + (by))
+#define i32_load8_s(to, address, by) LOAD(8, (u32)(s32)(s8), to, address, by)
 #define i32_load8_s_at(to, at, by) to = (u32)(s32)(s8)get8((at) + (by))
-#define i32_load16_u_at(to, at, by) to = get16((at) + (by))
+#define i32_store8(value, address, by) STORE(8, value, address, by)
+#define i32_store8_at(value, at, by) put8((at) + (by), (u8)(value))
+#define i32_load16_u(to, address, by) LOAD(16, (u32), to, address, by)
+#define i32_load16_u_at(to, at, by) to = (u32)get16((at) + (by))
+#define i32_load16_s(to, address, by) LOAD(16, (u32)(s32)(s16), to, address, by)
 #define i32_load16_s_at(to, at, by) to = (u32)(s32)(s16)get16((at) + (by))
-#define i64_load_at(to, at, by) to = get64((at) + (by))
-#define i64_load8_u_at(to, at, by) to = get8((at) + (by))
-#define i64_load8_s_at(to, at, by) to = (u64)(s64)(s8)get8((at) + (by))
-#define i64_load16_u_at(to, at, by) to = get16((at) + (by))
-#define i64_load16_s_at(to, at, by) to = (u64)(s64)(s16)get16((at) + (by))
-#define i64_load32_u_at(to, at, by) to = get32((at) + (by))
-#define i64_load32_s_at(to, at, by) to = (u64)(s64)(s32)get32((at) + (by))
-#define i32_store_at(value, at, by) put32((at) + (by), value)
-#define i32_store8_at(value, at, by) put8((at) + (by), value)
+#define i32_store16(value, address, by) STORE(16, value, address, by)
 #define i32_store16_at(value, at, by) put16((at) + (by), (u16)(value))
-#define i64_store_at(value, at, by) put64((at) + (by), value)
-#define i64_store8_at(value, at, by) put8((at) + (by), value)
+#define i32_load(to, address, by) LOAD(32, (u32), to, address, by)
+#define i32_load_at(to, at, by) to = (u32)get32((at) + (by))
+#define i32_store(value, address, by) STORE(32, value, address, by)
+#define i32_store_at(value, at, by) put32((at) + (by), (u32)(value))
+#define i64_load8_u(to, address, by) LOAD(8, (u64), to, address, by)
+#define i64_load8_u_at(to, at, by) to = (u64)get8((at) + (by))
+#define i64_load8_s(to, address, by) LOAD(8, (u64)(s64)(s8), to, address, by)
+#define i64_load8_s_at(to, at, by) to = (u64)(s64)(s8)get8((at) + (by))
+#define i64_store8(value, address, by) STORE(8, value, address, by)
+#define i64_store8_at(value, at, by) put8((at) + (by), (u8)(value))
+#define i64_load16_u(to, address, by) LOAD(16, (u64), to, address, by)
+#define i64_load16_u_at(to, at, by) to = (u64)get16((at) + (by))
+#define i64_load16_s(to, address, by) LOAD(16, (u64)(s64)(s16), to, address, by)
+#define i64_load16_s_at(to, at, by) to = (u64)(s64)(s16)get16((at) + (by))
+#define i64_store16(value, address, by) STORE(16, value, address, by)
 #define i64_store16_at(value, at, by) put16((at) + (by), (u16)(value))
+#define i64_load32_u(to, address, by) LOAD(32, (u64), to, address, by)
+#define i64_load32_u_at(to, at, by) to = (u64)get32((at) + (by))
+#define i64_load32_s(to, address, by) LOAD(32, (u64)(s64)(s32), to, address, by)
+#define i64_load32_s_at(to, at, by) to = (u64)(s64)(s32)get32((at) + (by))
+#define i64_store32(value, address, by) STORE(32, value, address, by)
 #define i64_store32_at(value, at, by) put32((at) + (by), (u32)(value))
+#define i64_load(to, address, by) LOAD(64, (u64), to, address, by)
+#define i64_load_at(to, at, by) to = (u64)get64((at) + (by))
+#define i64_store(value, address, by) STORE(64, value, address, by)
+#define i64_store_at(value, at, by) put64((at) + (by), (u64)(value))
 
 /* The accesses by one pointer lie within 256 bytes, and a block has more. */
 typedef char joined_accesses_fit[STACK_BYTES > 256 ? 1 : -1];
@@ -306,7 +306,7 @@ static u64 turn64(u64 x) {
  * calls tell, its heap, room for an input or a content, and of a receiver room for the data of a packet. An address from OUTSIDE on is a
  * place in a room of the caller, for a packet or a state. */
 #define OUTSIDE 0x80000000u
-enum { SENDER = 1, RECEIVER = 2 };
+enum { EITHER = 0, SENDER = 1, RECEIVER = 2 };
 enum { HANDLE = (HEAP_BASE + 15) / 16 * 16, TOLD = HANDLE + 16, TOLD_LEVEL = TOLD + 8, FIRST = TOLD + 48 };
 
 /* The stack that pocket.h tells is at least the deepest of the generated part, and at most a quarter of a kilobyte more; and its macros
@@ -314,12 +314,8 @@ enum { HANDLE = (HEAP_BASE + 15) / 16 * 16, TOLD = HANDLE + 16, TOLD_LEVEL = TOL
 typedef char stack_is_deep_enough[DEEPEST <= STACK_BYTES && STACK_BYTES < DEEPEST + 256 ? 1 : -1];
 typedef char fixed_bytes_are_told[POCKET_FIXED_BYTES == 15 + HEAD_BYTES + (FIRST - BASE) + SLACK ? 1 : -1];
 
-static u32 heap_bytes(u32 kind, u32 bits) {
-    return (u32)(kind == SENDER ? POCKET_SENDER_HEAP(bits) : POCKET_RECEIVER_HEAP(bits));
-}
-
 static u32 content_at(u32 kind, u32 bits) {
-    return FIRST + heap_bytes(kind, bits);
+    return FIRST + (u32)(kind == SENDER ? POCKET_SENDER_HEAP(bits) : POCKET_RECEIVER_HEAP(bits));
 }
 
 static u32 kind_of(const u8 *m) {
@@ -23554,21 +23550,17 @@ static POCKET_MAYBE_UNUSED void set_out(u8 *m, u8 *out, u32 room) {
     set_head(m, ROOM_AT, room);
 }
 
-/* Whether a call of a handle of either kind can begin: POCKET_DONE, or why not. */
-static u32 begun_of_any(const pocket_handle *handle) {
+/* The block of a handle of this kind, and whether a call of it can begin: POCKET_DONE, or why not. */
+static u32 begun(const pocket_handle *handle, u32 kind, u8 **block) {
     u8 *m;
     if (handle->at == NULL)
         return POCKET_IS_CLOSED;
     m = block_of(handle);
+    *block = m;
     if (head_of(m, BROKEN_AT) || head_of(m, SHAPE_AT) != ~head_of(m, SHAPE_TURNED_AT) || head_of(m, LAST_AT) != ~head_of(m, LAST_TURNED_AT))
         return POCKET_BROKEN;
     set_head(m, STACK_AT, STACK_TOP);
-    return POCKET_DONE;
-}
-
-static u32 begun(const pocket_handle *handle, u32 kind) {
-    const u32 status = begun_of_any(handle);
-    return status == POCKET_DONE && kind_of(block_of(handle)) != kind ? (u32)POCKET_OTHER_KIND : status;
+    return kind != EITHER && kind != kind_of(m) ? POCKET_OTHER_KIND : POCKET_DONE;
 }
 
 /* What a call answers that had a status, or was ended. */
@@ -23576,8 +23568,18 @@ static u32 ended(const u8 *m, u32 status) {
     return head_of(m, BROKEN_AT) ? (u32)POCKET_BROKEN : status;
 }
 
-/* Puts bytes at an address, and a zero after them; of more than there is room for, the first. Gives how many the generated part is told:
- * as many as there are, but one more than the room at most. */
+/* Gives the caller the length that was told, if it is within a room. */
+static POCKET_MAYBE_UNUSED u32 gives_length(u8 *m, u32 room, size_t *length) {
+    if (get64(place(TOLD)) > room) {
+        set_broken(m);
+        return POCKET_BROKEN;
+    }
+    *length = (size_t)get64(place(TOLD));
+    return POCKET_DONE;
+}
+
+/* Puts bytes at an address; of more than there is room for, the first. Gives how many the generated part is told: as many as there are, but
+ * one more than the room at most. */
 static u32 given(u8 *m, u32 at, const u8 *bytes, size_t length, u32 room) {
     const u32 count = length > room ? room : (u32)length;
     memcpy(place(at), bytes, count);
@@ -23615,6 +23617,17 @@ static u32 opened(pocket_handle *handle, u8 *m, u32 status) {
     return status;
 }
 
+/* What is wrong with an opening, by the bytes that it takes and has, and what is wrong with its mask: it is told before there is memory. */
+static u32 opening_fault(const pocket_handle *handle, size_t bytes, size_t size, u32 mask) {
+    if (handle->at != NULL)
+        return POCKET_IS_OPEN;
+    if (bytes == 0)
+        return POCKET_BITS;
+    if (mask != POCKET_DONE)
+        return mask;
+    return size < bytes ? POCKET_NO_MEMORY : POCKET_DONE;
+}
+
 #ifndef POCKET_NO_HEAP
 /* Marks the block of a handle as one that is given back, or gives the memory back now if nothing was opened in it. */
 static u32 owned(pocket_handle *handle, void *memory, u32 status) {
@@ -23627,7 +23640,7 @@ static u32 owned(pocket_handle *handle, void *memory, u32 status) {
 #endif
 
 #ifndef POCKET_NO_SENDER
-/* What is wrong with a first mask, which is told before there is memory for a sender: POCKET_DONE, or what its opening would answer. */
+/* What is wrong with a first mask: POCKET_DONE, or what an opening would answer. */
 static u32 mask_fault(uint32_t bits, const uint8_t *mask, size_t length) {
     if (length == 0)
         return POCKET_DONE;
@@ -23642,16 +23655,11 @@ size_t pocket_sender_bytes(uint32_t bits) {
 
 uint32_t pocket_sender_open_in(pocket_handle *handle, void *memory, size_t size, uint32_t bits, const uint8_t *mask, size_t mask_length) {
     const size_t bytes = pocket_sender_bytes(bits);
+    const u32 fault = opening_fault(handle, bytes, size, mask_fault(bits, mask, mask_length));
     u32 at, length;
     u8 *m;
-    if (handle->at != NULL)
-        return POCKET_IS_OPEN;
-    if (bytes == 0)
-        return POCKET_BITS;
-    if (mask_fault(bits, mask, mask_length) != POCKET_DONE)
-        return mask_fault(bits, mask, mask_length);
-    if (size < bytes)
-        return POCKET_NO_MEMORY;
+    if (fault != POCKET_DONE)
+        return fault;
     m = made_block(memory, SENDER, bits, bytes);
     at = content_at(SENDER, bits);
     length = given(m, at, mask, mask_length, (u32)POCKET_INPUT_BYTES(bits));
@@ -23661,26 +23669,17 @@ uint32_t pocket_sender_open_in(pocket_handle *handle, void *memory, size_t size,
 #ifndef POCKET_NO_HEAP
 uint32_t pocket_sender_open(pocket_handle *handle, uint32_t bits, const uint8_t *mask, size_t mask_length) {
     const size_t bytes = pocket_sender_bytes(bits);
-    void *memory;
-    if (handle->at != NULL)
-        return POCKET_IS_OPEN;
-    if (bytes == 0)
-        return POCKET_BITS;
-    if (mask_fault(bits, mask, mask_length) != POCKET_DONE)
-        return mask_fault(bits, mask, mask_length);
-    memory = malloc(bytes);
-    if (memory == NULL)
-        return POCKET_NO_MEMORY;
-    return owned(handle, memory, pocket_sender_open_in(handle, memory, bytes, bits, mask, mask_length));
+    const u32 fault = opening_fault(handle, bytes, 0, mask_fault(bits, mask, mask_length));
+    void *const memory = fault == POCKET_NO_MEMORY ? malloc(bytes) : NULL;
+    return memory == NULL ? fault : owned(handle, memory, pocket_sender_open_in(handle, memory, bytes, bits, mask, mask_length));
 }
 #endif
 
 uint32_t pocket_sender_reset(pocket_handle *handle, const uint8_t *mask, size_t mask_length) {
-    u32 status = begun(handle, SENDER), bits, at, length;
     u8 *m;
+    u32 status = begun(handle, SENDER, &m), bits, at, length;
     if (status != POCKET_DONE)
         return status;
-    m = block_of(handle);
     bits = bits_of(m);
     at = content_at(SENDER, bits);
     length = given(m, at, mask, mask_length, (u32)POCKET_INPUT_BYTES(bits));
@@ -23689,36 +23688,30 @@ uint32_t pocket_sender_reset(pocket_handle *handle, const uint8_t *mask, size_t 
 
 uint32_t pocket_send(pocket_handle *handle, const uint8_t *input, size_t input_length, bool new_mask, bool send_mask, bool whole,
                      uint8_t robustness, uint8_t *data, size_t room, size_t *length, uint8_t *level) {
-    u32 status = begun(handle, SENDER), bits, at, count, data_room;
+    const u32 data_room = room > POCKET_MOST_DATA ? POCKET_MOST_DATA : (u32)room;
     u8 *m;
+    u32 status = begun(handle, SENDER, &m), bits, at, count;
     if (status != POCKET_DONE)
         return status;
-    m = block_of(handle);
     bits = bits_of(m);
     at = content_at(SENDER, bits);
     count = given(m, at, input, input_length, (u32)POCKET_INPUT_BYTES(bits));
-    data_room = room > POCKET_MOST_DATA ? POCKET_MOST_DATA : (u32)room;
     set_out(m, data, data_room);
     status = ended(m, code_pocket_send(m, head_of(m, LAST_AT), HANDLE, at, count, new_mask, send_mask, whole, robustness, OUTSIDE,
                                        data_room, TOLD, TOLD_LEVEL));
     set_out(m, NULL, 0);
-    if (status != POCKET_DONE)
-        return status;
-    if (get64(place(TOLD)) > room) {
-        set_broken(m);
-        return POCKET_BROKEN;
-    }
-    *length = (size_t)get64(place(TOLD));
-    *level = get8(place(TOLD_LEVEL));
-    return POCKET_DONE;
+    if (status == POCKET_DONE)
+        status = gives_length(m, data_room, length);
+    if (status == POCKET_DONE)
+        *level = get8(place(TOLD_LEVEL));
+    return status;
 }
 
 uint32_t pocket_sent(pocket_handle *handle, uint64_t *packets) {
-    u32 status = begun(handle, SENDER);
     u8 *m;
+    u32 status = begun(handle, SENDER, &m);
     if (status != POCKET_DONE)
         return status;
-    m = block_of(handle);
     status = ended(m, code_pocket_sent(m, head_of(m, LAST_AT), HANDLE, TOLD));
     if (status == POCKET_DONE)
         *packets = get64(place(TOLD));
@@ -23733,13 +23726,10 @@ size_t pocket_receiver_bytes(uint32_t bits) {
 
 uint32_t pocket_receiver_open_in(pocket_handle *handle, void *memory, size_t size, uint32_t bits) {
     const size_t bytes = pocket_receiver_bytes(bits);
+    const u32 fault = opening_fault(handle, bytes, size, POCKET_DONE);
     u8 *m;
-    if (handle->at != NULL)
-        return POCKET_IS_OPEN;
-    if (bytes == 0)
-        return POCKET_BITS;
-    if (size < bytes)
-        return POCKET_NO_MEMORY;
+    if (fault != POCKET_DONE)
+        return fault;
     m = made_block(memory, RECEIVER, bits, bytes);
     return opened(handle, m, code_pocket_receiver_open(m, head_of(m, LAST_AT), HANDLE, bits));
 }
@@ -23747,34 +23737,25 @@ uint32_t pocket_receiver_open_in(pocket_handle *handle, void *memory, size_t siz
 #ifndef POCKET_NO_HEAP
 uint32_t pocket_receiver_open(pocket_handle *handle, uint32_t bits) {
     const size_t bytes = pocket_receiver_bytes(bits);
-    void *memory;
-    if (handle->at != NULL)
-        return POCKET_IS_OPEN;
-    if (bytes == 0)
-        return POCKET_BITS;
-    memory = malloc(bytes);
-    if (memory == NULL)
-        return POCKET_NO_MEMORY;
-    return owned(handle, memory, pocket_receiver_open_in(handle, memory, bytes, bits));
+    const u32 fault = opening_fault(handle, bytes, 0, POCKET_DONE);
+    void *const memory = fault == POCKET_NO_MEMORY ? malloc(bytes) : NULL;
+    return memory == NULL ? fault : owned(handle, memory, pocket_receiver_open_in(handle, memory, bytes, bits));
 }
 #endif
 
 uint32_t pocket_receiver_reset(pocket_handle *handle) {
-    u32 status = begun(handle, RECEIVER);
     u8 *m;
-    if (status != POCKET_DONE)
-        return status;
-    m = block_of(handle);
-    return ended(m, code_pocket_receiver_reset(m, head_of(m, LAST_AT), HANDLE));
+    const u32 status = begun(handle, RECEIVER, &m);
+    return status != POCKET_DONE ? status : ended(m, code_pocket_receiver_reset(m, head_of(m, LAST_AT), HANDLE));
 }
 
 uint32_t pocket_receive(pocket_handle *handle, uint16_t count, const uint8_t *data, size_t length, uint8_t *content, size_t room,
                         pocket_finding *finding) {
-    u32 status = begun(handle, RECEIVER), bits, at, from, told, most, content_room, kind;
+    const u32 content_room = room > POCKET_MOST_DATA ? POCKET_MOST_DATA : (u32)room;
     u8 *m;
+    u32 status = begun(handle, RECEIVER, &m), bits, at, from, told, most, kind;
     if (status != POCKET_DONE)
         return status;
-    m = block_of(handle);
     bits = bits_of(m);
     at = content_at(RECEIVER, bits);
     from = data_at(at, bits);
@@ -23782,7 +23763,6 @@ uint32_t pocket_receive(pocket_handle *handle, uint16_t count, const uint8_t *da
     told = given(m, from, data, length, most);
     if (length > most)
         told = length > POCKET_MOST_DATA ? POCKET_MOST_DATA + 1u : most;
-    content_room = room > POCKET_MOST_DATA ? POCKET_MOST_DATA : (u32)room;
     status = ended(m, code_pocket_receive(m, head_of(m, LAST_AT), HANDLE, count, from, told, at, content_room, TOLD));
     if (status != POCKET_DONE)
         return status;
@@ -23803,11 +23783,10 @@ uint32_t pocket_receive(pocket_handle *handle, uint16_t count, const uint8_t *da
 }
 
 uint32_t pocket_counts(pocket_handle *handle, pocket_tally *tally) {
-    u32 status = begun(handle, RECEIVER);
     u8 *m;
+    u32 status = begun(handle, RECEIVER, &m);
     if (status != POCKET_DONE)
         return status;
-    m = block_of(handle);
     status = ended(m, code_pocket_counts(m, head_of(m, LAST_AT), HANDLE, TOLD));
     if (status == POCKET_DONE) {
         tally->packets = get64(place(TOLD));
@@ -23820,9 +23799,10 @@ uint32_t pocket_counts(pocket_handle *handle, pocket_tally *tally) {
 #endif
 
 uint32_t pocket_bits(pocket_handle *handle, uint32_t *bits) {
-    const u32 status = begun_of_any(handle);
+    u8 *m;
+    const u32 status = begun(handle, EITHER, &m);
     if (status == POCKET_DONE)
-        *bits = bits_of(block_of(handle));
+        *bits = bits_of(m);
     return status;
 }
 
@@ -23849,33 +23829,24 @@ size_t pocket_state_bytes(uint32_t bits, uint32_t kind) {
 }
 
 uint32_t pocket_save(pocket_handle *handle, uint8_t *state, size_t room, size_t *length) {
-    u32 status = begun_of_any(handle);
     const u32 state_room = room > MOST_STATE ? MOST_STATE : (u32)room;
     u8 *m;
+    u32 status = begun(handle, EITHER, &m);
     if (status != POCKET_DONE)
         return status;
-    m = block_of(handle);
     set_out(m, state, state_room);
     status = ended(m, state_pocket_save(m, head_of(m, LAST_AT), HANDLE, OUTSIDE, state_room, TOLD));
     set_out(m, NULL, 0);
-    if (status != POCKET_DONE)
-        return status;
-    if (get64(place(TOLD)) > state_room) {
-        set_broken(m);
-        return POCKET_BROKEN;
-    }
-    *length = (size_t)get64(place(TOLD));
-    return POCKET_DONE;
+    return status == POCKET_DONE ? gives_length(m, state_room, length) : status;
 }
 
 /* Of more bytes than any state has one more than that is read: these are none. They are read only. */
 uint32_t pocket_load(pocket_handle *handle, const uint8_t *state, size_t length) {
     const u32 bytes = length > MOST_STATE ? MOST_STATE + 1u : (u32)length;
-    u32 status = begun_of_any(handle);
     u8 *m;
+    u32 status = begun(handle, EITHER, &m);
     if (status != POCKET_DONE)
         return status;
-    m = block_of(handle);
     set_out(m, (u8 *)state, bytes);
     status = ended(m, state_pocket_load(m, head_of(m, LAST_AT), HANDLE, OUTSIDE, bytes));
     set_out(m, NULL, 0);
