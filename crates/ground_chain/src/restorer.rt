@@ -74,7 +74,7 @@ impl Restorer {
             → ¬ Rose (D.counts desk.old).writes (D.counts desk.new).writes
             → IsOk result }
     {
-        let mut receiving = self.receiving;
+        let Restorer { mut receiving } = self;
         run(&mut receiving, desk)
     }
 }

@@ -102,12 +102,12 @@ impl Handle {
         ensures done { result ≡ CallStatus.Done → self.new.held ≡ Some value }
         ensures unchanged { result ≡ CallStatus.NoMemory → self.new.held ≡ self.old.held }
     {
-        match Box::new(alloc, value) {
-            Ok(held) => {
+        match Box::new(alloc, value).ok() {
+            Some(held) => {
                 self.put(alloc, held);
                 CallStatus::Done
             }
-            Err(_) => CallStatus::NoMemory,
+            None => CallStatus::NoMemory,
         }
     }
 

@@ -112,17 +112,35 @@ fn faults_of(refusal: Refusal) -> (u64, u64, u64) {
 
 /// Runs a case, which must end like this.
 pub fn assert_ending(rt: &impl Tester, case: &Case<'_>, wanted: &Ending<'_>) -> Result<(), Fail> {
-    let mut desk = desk_for(rt.alloc(), case)?;
-    let status = answer(rt.alloc(), case.words, &mut desk)?;
+    assert_ending_at(rt, case, wanted, &mut new_desk(rt.alloc()))
+}
+
+fn assert_ending_at(
+    rt: &impl Tester,
+    case: &Case<'_>,
+    wanted: &Ending<'_>,
+    desk: &mut MemDesk,
+) -> Result<(), Fail> {
+    let status = answer_at(rt.alloc(), case, desk)?;
     let side = front(case.side.unwrap_or(&[]), 80);
     assert_eq!(rt;
-        ended(status, &desk),
+        ended(status, desk),
         *wanted,
         "{} {:?} {side:?}",
         case.words,
         case.fails
     );
     Ok(())
+}
+
+/// What is answered to a case.
+pub fn answer_to(alloc: Global, case: &Case<'_>) -> Result<Status, Fail> {
+    answer_at(alloc, case, &mut new_desk(alloc))
+}
+
+fn answer_at(alloc: Global, case: &Case<'_>, desk: &mut MemDesk) -> Result<Status, Fail> {
+    prepare(desk, case)?;
+    Ok(answer(alloc, case.words, desk)?)
 }
 
 /// The first bytes, as many as there are.
@@ -198,12 +216,6 @@ pub fn in_pieces(desk: &mut MemDesk, size: u32) {
 /// Holds bytes under a name.
 pub fn hold(desk: &mut MemDesk, name: &str, bytes: &[u8]) -> Result<(), NoMemory> {
     desk.put(name, bytes)
-}
-
-fn desk_for(alloc: Global, case: &Case<'_>) -> Result<MemDesk, NoMemory> {
-    let mut desk = new_desk(alloc);
-    prepare(&mut desk, case)?;
-    Ok(desk)
 }
 
 /// Holds the inputs of a case, and lets the calls fail that it names.

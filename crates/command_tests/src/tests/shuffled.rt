@@ -126,12 +126,18 @@ fn drawn_order(
 }
 
 /// A drawn store that is shuffled within a window.
-fn assert_shuffled(rt: &impl Tester, window: &str, size: u32, seed: u32) -> Result<(), Fail> {
+fn assert_shuffled(
+    rt: &impl Tester,
+    window: &str,
+    size: u32,
+    seed: u32,
+    desk: &mut MemDesk,
+) -> Result<(), Fail> {
     let mut draws = Draws { state: seed };
     let recording = drawn_recording(rt.alloc(), &mut draws, 300)?;
-    let store = store_of(rt, &recording, &mut new_desk(rt.alloc()))?;
+    let store = store_of(rt, &recording, desk)?;
     let late = drawn_order(rt.alloc(), &store, &mut draws, 300, size)?;
-    assert_same(rt, window, &store, &late, &mut new_desk(rt.alloc()))
+    assert_same(rt, window, &store, &late, desk)
 }
 
 /// Windows, the sizes of the blocks that are shuffled, and seeds.
@@ -147,7 +153,7 @@ static SHUFFLES: [(&str, u32, u32); 6] = [
 #[test]
 fn shuffled_stores(rt: HostRuntime) -> Result<(), Fail> {
     for (window, size, seed) in &SHUFFLES {
-        assert_shuffled(&rt, window, *size, *seed)?;
+        assert_shuffled(&rt, window, *size, *seed, &mut new_desk(rt.alloc()))?;
     }
     Ok(())
 }

@@ -1,6 +1,6 @@
 //! Tables of worked recordings, the rules of their side texts, and what stands if a call fails.
 
-use super::desk::{answer, assert_in_pieces, done, hold, new_desk, with_both};
+use super::desk::{answer_to, assert_in_pieces, done, with_both};
 use super::faults::{Faults, assert_faults};
 use super::rows::{Form, Table, Wrong, assert_rows, assert_wrong_sides};
 use pocket_cmd::{Refusal, Status};
@@ -165,10 +165,7 @@ fn many_fields(alloc: Global, count: u32) -> Result<String, AllocError> {
 
 /// What is answered to a text with a recording of no bytes.
 fn answer_of(alloc: Global, text: &str) -> Result<Status, Fail> {
-    let mut desk = new_desk(alloc);
-    hold(&mut desk, "a", &[])?;
-    hold(&mut desk, "s", text.as_bytes())?;
-    Ok(answer(alloc, SIXTEEN_BITS, &mut desk)?)
+    answer_to(alloc, &with_both(SIXTEEN_BITS, &[], text.as_bytes()))
 }
 
 #[test]

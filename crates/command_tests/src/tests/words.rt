@@ -2,6 +2,7 @@
 
 use super::desk::{answer, hold, new_desk};
 use super::rows::{Wrong, assert_wrong_words};
+use desk_ports::MemDesk;
 use pocket_cmd::Status;
 use std::alloc::Global;
 use std::test::Fail;
@@ -240,11 +241,20 @@ fn wrong_words(rt: HostRuntime) -> Result<(), Fail> {
 
 /// What is answered if these inputs exist, with no bytes.
 fn answer_with(alloc: Global, line: &str, inputs: &[&str]) -> Result<Status, Fail> {
-    let mut desk = new_desk(alloc);
+    answer_at(alloc, line, inputs, &mut new_desk(alloc))
+}
+
+// (What has a desk of its own does nothing else: each way out of it is proved to give back all memory.)
+fn answer_at(
+    alloc: Global,
+    line: &str,
+    inputs: &[&str],
+    desk: &mut MemDesk,
+) -> Result<Status, Fail> {
     for name in inputs {
-        hold(&mut desk, name, &[])?;
+        hold(desk, name, &[])?;
     }
-    Ok(answer(alloc, line, &mut desk)?)
+    Ok(answer(alloc, line, desk)?)
 }
 
 #[test]

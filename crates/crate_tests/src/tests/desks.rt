@@ -42,6 +42,11 @@ fn three_copies(desk: &mut FileDesk<'_>) -> [Result<usize, Failed>; 3] {
     ]
 }
 
+// (What has a desk of its own does nothing else: each way out of it is proved to give back all memory.)
+fn a_file_is_copied(rt: &HostRuntime) -> Result<bool, Fail> {
+    copies_are_right(rt, &mut FileDesk::new(rt))
+}
+
 // Whether the row alone is copied, and an output that is not finished stays beside its name.
 fn copies_are_right(rt: &HostRuntime, desk: &mut FileDesk<'_>) -> Result<bool, Fail> {
     Ok(
@@ -56,7 +61,7 @@ fn copies_are_right(rt: &HostRuntime, desk: &mut FileDesk<'_>) -> Result<bool, F
 #[test]
 fn a_copy_of_a_file(rt: HostRuntime) -> Result<(), Fail> {
     fs::write(&rt, "row", ROW.as_slice())?;
-    assert!(rt; copies_are_right(&rt, &mut FileDesk::new(&rt))?);
+    assert!(rt; a_file_is_copied(&rt)?);
     fs::remove_file(&rt, "row")?;
     fs::remove_file(&rt, "copy")?;
     fs::remove_file(&rt, "copy.part")?;
@@ -69,13 +74,14 @@ fn finished_alone(desk: &mut FileDesk<'_>) -> Result<(), Failed> {
     desk.finish(Outlet::Main)
 }
 
+fn a_file_is_finished_alone(rt: &HostRuntime) -> Result<(), Failed> {
+    finished_alone(&mut FileDesk::for_command(rt, true))
+}
+
 #[test]
 fn an_earlier_part_is_not_named_before_the_report_is_opened(rt: HostRuntime) -> Result<(), Fail> {
     fs::write(&rt, "left.part", ROW.as_slice())?;
-    assert_eq!(rt;
-        finished_alone(&mut FileDesk::for_command(&rt, true)),
-        Err(Failed)
-    );
+    assert_eq!(rt; a_file_is_finished_alone(&rt), Err(Failed));
     assert!(rt; holds(&rt, "left.part", &ROW)?);
     fs::remove_file(&rt, "left.part")?;
     Ok(())

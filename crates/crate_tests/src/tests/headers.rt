@@ -10,20 +10,24 @@ const HEADERS: [(u16, u16, u32, [u8; 6]); 4] = [
     (2047, 16_383, 65_536, [0x07, 0xFF, 0xFF, 0xFF, 0xFF, 0xFF]),
 ];
 
+/// Whether the six bytes and the numbers of a row are each other's.
+fn is_right(apid: u16, count: u16, size: u32, bytes: [u8; 6]) -> bool {
+    let header = read_header(&bytes);
+    apid <= 2047
+        && u64::from(count) < PERIOD
+        && size > 0
+        && size <= 65_536
+        && header_bytes(apid, count, size) == bytes
+        && (header.version, header.sequence) == (0, 3)
+        && !header.telecommand
+        && !header.secondary
+        && (header.apid, header.count) == (apid, count)
+        && header.size() as u32 == size
+}
+
 #[test]
 fn headers_both_ways(rt: HostRuntime) {
     for (apid, count, size, bytes) in HEADERS {
-        let right = apid <= 2047 && u64::from(count) < PERIOD && size > 0 && size <= 65_536;
-        assert!(rt; right);
-        if right {
-            assert_eq!(rt; header_bytes(apid, count, size), bytes);
-        }
-        let header = read_header(&bytes);
-        assert_eq!(rt; header.version, 0);
-        assert!(rt; !header.telecommand && !header.secondary);
-        assert_eq!(rt; header.apid, apid);
-        assert_eq!(rt; header.sequence, 3);
-        assert_eq!(rt; header.count, count);
-        assert_eq!(rt; header.size() as u32, size);
+        assert!(rt; is_right(apid, count, size, bytes), "{bytes:?}");
     }
 }
