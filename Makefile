@@ -31,7 +31,7 @@ CHECKED = $(BUILD)/checked.o $(BUILD)/checked_desk.o
 STRICT = -std=c99 -Wall -Wextra -pedantic -O2 -fPIC -ffunction-sections -fstack-protector-strong -D_FORTIFY_SOURCE=2
 # Where the system's Python looks for modules: Debian's has folders of its own.
 PYTHON = $(firstword $(wildcard /usr/bin/python3) python3)
-MODULES = $(shell $(PYTHON) library/python/place.py $(PREFIX))
+MODULES = $(or $(shell $(PYTHON) library/python/place.py $(PREFIX)),$(error $(PYTHON) tells no folder for modules below PREFIX=$(PREFIX)))
 PLACE = $(DESTDIR)$(PREFIX)
 LIBRARIES = $(DESTDIR)$(LIBDIR)
 

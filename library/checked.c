@@ -80,7 +80,7 @@ pocket_status pocket_checked_save(pocket_handle *handle, uint8_t *state, size_t 
 {
     if (handle == NULL || length == NULL || POCKET_BYTES_ARE_NULL(state, room))
         return POCKET_NULL;
-    return (pocket_status)pocket_save(handle, state, room, length);
+    return (pocket_status)pocket_save(handle, state == NULL ? &no_room : state, room, length);
 }
 
 pocket_status pocket_checked_load(pocket_handle *handle, const uint8_t *state, size_t length)

@@ -12,7 +12,7 @@ TARGET ?= riscv64-linux-gnu
 CROSS_OUT := library/out/$(TARGET)$(if $(unaligned),-unaligned)
 CROSS_CFLAGS ?= -std=c99 -Wall -Wextra -pedantic -Werror -O2 -ffunction-sections
 CROSS_OBJECTS := $(CROSS_OUT)/heap.o $(CROSS_OUT)/checked.o $(CROSS_OUT)/checked_desk.o
-CROSS_SOURCES := $(shell find crates/pocket_c/src crates/pocket_c/specs crates/pocket_c/proofs -type f) crates.txt
+CROSS_SOURCES := $(wildcard crates/*/src/*.rt crates/*/src/*/*.rt) crates.txt
 # Aligned accesses alone in what the cross compiler makes, too.
 CROSS_STRICT := $(if $(unaligned),-mno-strict-align,-mstrict-align)
 

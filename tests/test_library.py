@@ -1,5 +1,6 @@
 """The library: what `make lib` builds and installs, its calls from C and C++, and the examples beside the program."""
 
+import glob
 import os
 import re
 import shutil
@@ -7,7 +8,7 @@ import subprocess
 import sys
 
 from library import STRICT, LibraryTest, need, run
-from program import PROGRAM, SAMPLES, TOP, text_of
+from program import PROGRAM, SAMPLES, TOP, Folder, text_of
 from rows import PLAYED, sample
 
 COMPILERS = [("gcc", ["-std=c99"]), ("gcc", ["-std=c17"]), ("clang", ["-std=c99"]), ("g++", ["-x", "c++"]), ("clang++", ["-x", "c++"])]
@@ -39,6 +40,19 @@ class Installed(LibraryTest):
         self.make("uninstall", *words)
         self.assertEqual([name for _, _, names in os.walk(root) for name in names], [])
 
+    def test_no_place(self):
+        """If no folder for modules can be told, nothing is removed, nor is a module placed."""
+        kept = Folder(self.room.at("no-place"))
+        for name in ("pocket", "usr/local/bin"):
+            os.makedirs(kept.at(name))
+        for name in ("pocket/kept", "usr/local/bin/pocket"):
+            kept.put(name, "")
+        for words in (["PREFIX=/usr/local", "PYTHON=false"], ["PREFIX="]):
+            for goal in ("uninstall", "install-module"):
+                with self.subTest(goal, words=words), self.assertRaisesRegex(RuntimeError, "tells no folder for modules"):
+                    self.make(goal, f"DESTDIR={kept.folder}", *words)
+        self.assertEqual(sorted(name for _, _, names in os.walk(kept.folder) for name in names), ["kept", "pocket"])
+
     def test_pip(self):
         """`pip install .` brings the library along: into a folder of its own, by Debian's packages, without a registry."""
         for module in ("pip", "setuptools", "wheel"):
@@ -51,6 +65,11 @@ class Installed(LibraryTest):
         run(PYTHON, "-m", "pip", "install", *words, self.room.at("pip"), ".", cwd=copy, env=env)
         env = {"PATH": os.environ["PATH"], "PYTHONPATH": self.room.at("pip"), "PYTHONDONTWRITEBYTECODE": "1"}
         self.assertEqual(run(PYTHON, "-m", "pocket", "bits=8", "apid=100", env=env, cwd="/", given=PLAYED), SHOWN)
+
+    def test_sources(self):
+        """A change of any crate's code makes the library for another processor anew."""
+        told = run("make", "-s", "-f", "library/targets.mk", "--eval=sources: ; @echo $(CROSS_SOURCES)", "sources").decode().split()
+        self.assertEqual(set(glob.glob("crates/*/src/**/*.rt", root_dir=TOP, recursive=True)) - set(told), set())
 
     def test_exports(self):
         """The shared library exports the calls of the header alone, in its version, by a name that tells it."""

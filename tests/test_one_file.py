@@ -66,8 +66,9 @@ TARGETS = {
 # of the compiler's own functions on a processor without an operating system.
 LIBC = {"memcpy", "memmove", "memset"}
 HOSTED = [(["-O1"], LIBC | {"malloc", "free"}), (["-std=gnu17"], LIBC | {"malloc", "free"}), (["-O0", "-DPOCKET_NO_HEAP"], LIBC), (["-O0", "-DPOCKET_NO_RECEIVER", "-DPOCKET_NO_HEAP"], LIBC),
-          (["-O0", "-DPOCKET_NO_SENDER", "-DPOCKET_NO_HEAP"], LIBC), (["-O0", "-DPOCKET_UNCHECKED"], LIBC | {"malloc", "free"})]
-LEFT_OUT = {"-DPOCKET_NO_SENDER": "send", "-DPOCKET_NO_RECEIVER": "receive"}
+          (["-O0", "-DPOCKET_NO_SENDER", "-DPOCKET_NO_HEAP"], LIBC), (["-O0", "-DPOCKET_UNCHECKED"], LIBC | {"malloc", "free"}),
+          *((["-O0", "-DPOCKET_NO_STATES", *flags, "-DPOCKET_NO_HEAP"], LIBC) for flags in ([], ["-DPOCKET_NO_SENDER"], ["-DPOCKET_NO_RECEIVER"]))]
+LEFT_OUT = {"-DPOCKET_NO_SENDER": "send", "-DPOCKET_NO_RECEIVER": "receive", "-DPOCKET_NO_STATES": "save"}
 FREESTANDING = ["-ffreestanding", "-DPOCKET_NO_HEAP", "-DPOCKET_NO_LIBC"]
 BARE = {
     "Cortex-M3": (["arm-none-eabi-gcc", "-mcpu=cortex-m3", "-mthumb"], {"__ctzdi2"}),
@@ -154,8 +155,8 @@ def asks(room, compiler, flags, needs):
     """What the file asks for beside these names, or which calls it has that flags leave out, or None. No compiler complains."""
     need(compiler[0])
     asked, calls = symbols(compiler, flags, room.made, room.at(f"{'-'.join([*compiler, *flags])}.o"))
-    left_out = next((call for flag, call in LEFT_OUT.items() if flag in flags), "no call")
-    return f"it asks for {sorted(asked - needs)}" if asked - needs else next((f"it has {call}" for call in sorted(calls) if left_out in call), None)
+    left_out = [word for flag, word in LEFT_OUT.items() if flag in flags]
+    return f"it asks for {sorted(asked - needs)}" if asked - needs else next((f"it has {call}" for call in sorted(calls) if any(word in call for word in left_out)), None)
 
 
 def fails(room, source, flags, *words, compiler="gcc", before=()):

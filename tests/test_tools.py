@@ -2,6 +2,7 @@
 one line and a status, and a name keeps what it had."""
 
 import os
+import resource
 import signal
 import subprocess
 import sys
@@ -60,6 +61,9 @@ class Tools(LibraryTest):
         self.assertEqual((self.run_tool([*words, "out=/dev/null"], given)[:2], self.there()), ((0, b""), []))
         self.refuses([*words, "out=/dev/full"], f"pocket {tool}: writing failed: No space left on device", given=given)
         self.refuses(words, f"pocket {tool}: writing failed: No space left on device", given=given, shell="> /dev/full")
+        # (so Python tells, as later ones do always, what fails in what is left to be closed)
+        self.refuses([*words, "out=/dev/full"], "writing failed", given=given, flags=("-X", "dev", "-W", "ignore"))
+        self.refuses(words, "writing failed", given=given, shell="> /dev/full", flags=("-X", "dev", "-W", "ignore"))
         self.refuses(words, "standard output is closed", given=given, shell=">&-")
         self.refuses([*words, "out=none/made"], "none/made: No such file or directory", given=given)
         with unread_pipe() as pipe:
@@ -79,6 +83,22 @@ class Tools(LibraryTest):
         self.refuses([*merge, "report=-"], "standard output is one output")
         self.assertEqual(self.room.get("x"), STORE)
 
+    def test_standard_output(self):
+        """A file that is standard output isn't written under its name too; and standard output has more names than one."""
+        merge = ["merge", "x", "x", "near=0"]
+        for name, shell in (("both", "> both"), ("./both", "> both"), ("both", ">> both.part")):
+            self.refuses([*merge, f"report={name}"], "is read or written under another name", shell=shell)
+            self.refuses([*merge, f"out={name}", "report=-"], "is read or written under another name", shell=shell)
+        for name in ("/dev/stdout", "/dev/fd/1", "/proc/self/fd/1"):
+            self.refuses([*merge, f"report={name}"], "standard output is one output", shell="> both")
+            self.refuses([*merge, "out=both", f"report={name}"], "is read or written under another name", shell="> both")
+            self.assertEqual(self.run_tool([*merge, f"out={name}"]), (0, STORE, ""))
+
+    def test_pipes(self):
+        """A pipe, by a name of /dev/fd, is written as it is."""
+        self.assertEqual(self.run_tool(["merge", "x", "x", "near=0", "out=/dev/fd/3"], shell="3>&1 > /dev/null | cat")[1:], (STORE, ""))
+        self.assertIn(b"another place", self.run_tool(["merge", "x", "x", "near=16384", "report=/dev/fd/3"], shell="3>&1 > /dev/null | cat")[1])
+
     def test_refused(self):
         """What is refused leaves what stood under a name."""
         self.room.put("old", "old")
@@ -95,6 +115,8 @@ class Tools(LibraryTest):
         self.refuses(["merge", "x", "none"], "none: No such file or directory")
         self.refuses(["merge", "x", "/"], "/: Is a directory")
         self.refuses(["frames", "length=33"], "-: ", shell="<&-")
+        for words in (["bits=8", "apid=100"], CALLS["frames"][0], CALLS["pack"][0][:3]):
+            self.refuses(words, ": -: Input/output error", shell="< /proc/self/mem")
         self.refuses(["numbers", "table=-", "report=-"], "standard input is one file")
         self.assertEqual(self.there(), [])
 
@@ -107,6 +129,37 @@ class Tools(LibraryTest):
         self.assertEqual(self.run_tool(["merge", "x", "none"], shell="2> /dev/full")[::2], (1, ""))
         self.assertEqual(self.run_tool(["merge", "x", "x", "near=16384"])[0], 3, "another place")
         self.refuses(["frames", "length=9"], status=4, given=given)
+
+    def test_not_blocking(self):
+        """Standard input in non-blocking mode ends where it ends, and not where it has no bytes yet."""
+        for words, wanted in ((["merge", "-", "x", "near=0"], STORE), (["bits=8", "apid=100"], b"0 written b0\n1 written b1\n2-2 lost\n3 written b1\nend 3 3 0\n")):
+            reading, writing = os.pipe()
+            os.set_blocking(reading, False)
+            os.write(writing, STORE[:10])
+            run = subprocess.Popen([sys.executable, "-m", "pocket", *words], cwd=self.room.folder, stdin=reading, stdout=subprocess.PIPE, stderr=subprocess.PIPE)
+            os.close(reading)
+            time.sleep(0.5)
+            os.write(writing, STORE[10:])
+            os.close(writing)
+            self.assertEqual((*run.communicate(timeout=60), run.returncode), (wanted, b"", 0))
+
+    def test_at_once(self):
+        """`show` tells of each packet as it arrives, also into a pipe."""
+        run = subprocess.Popen([sys.executable, "-m", "pocket", "bits=8", "apid=100"], stdin=subprocess.PIPE, stdout=subprocess.PIPE, bufsize=0)
+        found = []
+        for packet in (STORE[:10], STORE[10:20], STORE[20:]):
+            run.stdin.write(packet)
+            found.append(run.stdout.readline())
+        self.assertEqual((found, *run.communicate(timeout=60), run.returncode), ([b"0 written b0\n", b"1 written b1\n", b"2-2 lost\n"], b"3 written b1\nend 3 3 0\n", None, 0))
+
+    def test_memory(self):
+        """What is said by few bytes takes little memory, and what is too much for it is told in one line."""
+        little = dict(preexec_fn=lambda: resource.setrlimit(resource.RLIMIT_AS, (200 << 20, 200 << 20)))
+        self.room.put("great", "first,last,cause,value\n4294967000,4294967000,lost,0\nend,4294967001,4294967000,0\n")
+        self.refuses(["numbers", "table=table", "report=great"], "table has 2 packets, and by great 4294967000 were restored", **little)
+        with open(self.room.at("great"), "wb") as great:
+            great.truncate(300 << 20)
+        self.refuses(["pack", "fields=fields", "bits=8", "in=great", "out=made"], "pocket pack: out of memory", **little)
 
     def test_interrupt(self):
         """An interrupt is one line, and leaves the name as it was."""
@@ -129,7 +182,9 @@ class Tools(LibraryTest):
     def test_wrong_words(self):
         for own, text in [(["merg", "x"], "merg: did you mean merge?"), (["number", "table=x"], "number: did you mean numbers?"), (["help"], "help: did you mean --help?"),
                           (["xyz"], "xyz: the arguments are advise, frames, merge, numbers, pack, --help"), ([], "it takes bits=BITS and apid=APID, or the name of a tool (--help)"),
-                          (["bits=0", "apid=1"], "bits is a number from 1 to 49152"), (["merge", "x", "x", "neer=1"], "neer=1: No such file or directory"),
+                          (["bits=0", "apid=1"], "bits is a number from 1 to 49152"), (["bits=\u0668", "apid=1"], "bits is a number from 1 to 49152"),
+                          (["bits=8", "apid=0100"], "apid is a number from 0 to 2046"), (["bits=8", "apid=2047"], "apid is a number from 0 to 2046"), (["bits=49153", "apid=0"], "bits is a number"),
+                          (["merge", "x", "x", "neer=1"], "neer=1: No such file or directory"),
                           (["frames", "lenght=9"], "lenght=9: did you mean length=?"), (["pack", "fields=fields"], "bits= is missing")]:
             self.refuses(own, text)
         for own in (["--help"], ["merge", "--help"], ["bits=8", "apid=100"]):
@@ -137,3 +192,6 @@ class Tools(LibraryTest):
         none = dict(POCKET_LIBRARY="/none/libpocket.so", PATH="/none")
         self.refuses(["bits=8", "apid=100"], "/none/libpocket.so", given=STORE, env=none)
         self.refuses(["advise", "packets=9", "script=fields", "rows=1"], "neither the library is there", env=none)
+        other = dict(POCKET_LIBRARY="libc.so.6", PATH="/none")
+        self.refuses(["bits=8", "apid=100"], "libc.so.6 is no libpocket, or one of another version, which has no pocket_close: POCKET_LIBRARY can name it", given=STORE, env=other)
+        self.refuses(["advise", "packets=9", "script=fields", "rows=1"], "neither the library is there", env=other)

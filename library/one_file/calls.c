@@ -70,7 +70,7 @@ static bool copied(u8 *m, u32 last, u32 to, u32 from, u32 count) {
     return true;
 }
 
-static bool equal(const u8 *one, const u8 *other, u32 count) {
+static POCKET_MAYBE_UNUSED bool equal(const u8 *one, const u8 *other, u32 count) {
     while (count > 0 && *one++ == *other++)
         count--;
     return count == 0;

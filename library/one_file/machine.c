@@ -130,7 +130,7 @@ typedef char joined_accesses_fit[STACK_BYTES > 256 ? 1 : -1];
 #define div_u(to, x, y) do { if ((y) == 0) goto trap; to = (x) / (y); } while (0)
 #define rem_u(to, x, y) do { if ((y) == 0) goto trap; to = (x) % (y); } while (0)
 
-/* Whether so many bytes from an address on lie in the block; no byte lies anywhere. */
+/* Whether so many bytes from an address on lie in the block; no byte lies at each of its addresses, and at its end. */
 static POCKET_MAYBE_UNUSED bool lie_in(u32 last, u32 address, u32 count) {
     const u32 offset = address - BASE;
     return offset <= last + SLACK && count <= last + SLACK - offset;

@@ -124,10 +124,11 @@ static struct answer ran(char **words, unsigned count) {
         while (bytes < 4 * (u64)inputs[at].length)
             bytes *= 2;
     for (; bytes <= MOST_MEMORY; bytes *= 2) {
-        u8 *const memory = bytes + HEAD_BYTES > SIZE_MAX ? NULL : calloc(1, (size_t)bytes + HEAD_BYTES), *const m = memory + HEAD_BYTES;
+        u8 *const memory = bytes + HEAD_BYTES > SIZE_MAX ? NULL : calloc(1, (size_t)bytes + HEAD_BYTES), *m;
         const u32 last = (u32)bytes - SLACK;
         if (memory == NULL)
             break;
+        m = memory + HEAD_BYTES;
         memset(free_places, 0, sizeof free_places);
         memcpy(place(STACK_TOP), constants, CONSTANT_BYTES);
         set_head(m, STACK_AT, STACK_TOP);

@@ -39,7 +39,7 @@ void __wrap_free(void *at)
     __real_free(at);
 }
 
-static uint8_t input[POCKET_INPUT_BYTES(POCKET_MOST_BITS)], data[POCKET_PACKET_BYTES(POCKET_MOST_BITS)], content[sizeof input];
+static uint8_t state[POCKET_SENDER_STATE_BYTES(POCKET_MOST_BITS)], input[POCKET_INPUT_BYTES(POCKET_MOST_BITS)], data[POCKET_PACKET_BYTES(POCKET_MOST_BITS)], content[sizeof input];
 #define check(right) check(right, "refused memory", __LINE__)
 
 static pocket_status opened(pocket_handle *handle, uint32_t bits, bool sends)
@@ -71,6 +71,7 @@ static void hands_on(pocket_handle *sender, pocket_handle *receiver, uint32_t bi
     uint8_t level;
     pocket_finding finding;
     pocket_tally tally;
+    uint64_t sent;
     uint32_t t;
 
     calls = 0;
@@ -82,6 +83,9 @@ static void hands_on(pocket_handle *sender, pocket_handle *receiver, uint32_t bi
         check(finding.kind == POCKET_WRITTEN && content[0] == input[0]);
     }
     check(pocket_counts(receiver, &tally) == POCKET_DONE && tally.packets == 200 && tally.written == 200);
+    check(pocket_sent(sender, &sent) == POCKET_DONE && sent == 200 && pocket_bits(sender, &t) == POCKET_DONE && t == bits);
+    check(pocket_save(sender, state, sizeof state, &length) == POCKET_DONE && pocket_load(sender, state, length) == POCKET_DONE);
+    check(pocket_save(receiver, state, sizeof state, &length) == POCKET_DONE && pocket_load(receiver, state, length) == POCKET_DONE);
     check(calls == 0 && held == before);
 }
 
@@ -102,6 +106,7 @@ static void given_memory(void)
     check(pocket_sender_open_in(&handle, memory, 0, 13, mask, 1) == POCKET_MASK_LENGTH);
     check(pocket_sender_open_in(&handle, memory, 0, 0, NULL, 0) == POCKET_BITS && pocket_receiver_open_in(&handle, memory, 0, 0) == POCKET_BITS);
     check(pocket_sender_open_in(NULL, memory, sender, 13, mask, 2) == POCKET_NULL && pocket_receiver_open_in(&handle, NULL, receiver, 13) == POCKET_NULL);
+    check(pocket_sender_open_in(&handle, NULL, 0, 13, mask, 2) == POCKET_NULL && pocket_receiver_open_in(&handle, NULL, 0, 13) == POCKET_NULL);
     check(handle.at == NULL && pocket_sender_open_in(&handle, memory, sender, 13, mask, 2) == POCKET_DONE);
     check(pocket_sender_open_in(&handle, memory, sender, 13, mask, 2) == POCKET_IS_OPEN);
     check(pocket_receiver_open_in(&handle, memory, receiver, 13) == POCKET_IS_OPEN && pocket_close(&handle) == POCKET_DONE);
@@ -131,6 +136,19 @@ static pocket_status command(pocket_handle *desk, uint8_t *exit_number)
     return status;
 }
 
+/* A removal gives back the memory of contents that were replaced too. */
+static void replaces(pocket_handle *desk)
+{
+    const long were = calls, kept = held;
+    uint8_t number;
+
+    fails_at = 0;
+    for (number = 0; number < 100; number++)
+        check(pocket_put(desk, "y", data, number) == POCKET_DONE);
+    check(held > kept + 90 && pocket_remove(desk, "y") == POCKET_DONE && held == kept);
+    calls = were;
+}
+
 static void at_desk(void)
 {
     pocket_handle desk = POCKET_NOTHING;
@@ -150,6 +168,7 @@ static void at_desk(void)
             kept = held;
             check(pocket_name_from(&desk, "t", 1, (char *)store, sizeof store, &length) == POCKET_DONE && length == 1 && calls == taken);
             check(pocket_remove(&desk, "s") == POCKET_DONE && calls == taken && held < kept);
+            replaces(&desk);
             break;
         }
         check(status == POCKET_NO_MEMORY || (status == POCKET_DONE && exit_number != 0));

@@ -28,14 +28,19 @@ typedef struct packet {
     size_t length;
 } packet;
 
-static packet made(pocket_handle *sender, uint8_t robustness)
+static packet made_as(pocket_handle *sender, uint8_t robustness, bool new_mask, bool begins)
 {
     packet one;
 
     move();
     memcpy(one.input, input, BYTES);
-    check(pocket_send(sender, input, BYTES, false, false, false, robustness, one.data, ROOM, &one.length, &one.level) == POCKET_DONE, "a packet is sent");
+    check(pocket_send(sender, input, BYTES, new_mask, begins, begins, robustness, one.data, ROOM, &one.length, &one.level) == POCKET_DONE, "a packet is sent");
     return one;
+}
+
+static packet made(pocket_handle *sender, uint8_t robustness)
+{
+    return made_as(sender, robustness, false, false);
 }
 
 /* What is found of an arrival, and whether its content is the input. */
@@ -59,18 +64,52 @@ static void close_both(pocket_handle *sender, pocket_handle *receiver)
     check(pocket_close(sender) == POCKET_DONE && pocket_close(receiver) == POCKET_DONE, "both ends are closed");
 }
 
+/* The answers with their numbers and texts, in the order of the numbers. */
+static const struct {
+    uint32_t number, status;
+    const char *text;
+} answers[] = {
+    {0, POCKET_DONE, "done"},
+    {1, POCKET_NO_MEMORY, "out of memory"},
+    {2, POCKET_IS_CLOSED, "it is closed"},
+    {3, POCKET_IS_OPEN, "it is open"},
+    {4, POCKET_OTHER_KIND, "it holds something of another kind"},
+    {5, POCKET_BITS, "a vector has 1 to 49152 places"},
+    {6, POCKET_MASK_LENGTH, "the mask has the wrong length"},
+    {7, POCKET_MASK_SPARE_BIT, "the mask has a spare bit set"},
+    {8, POCKET_INPUT_LENGTH, "the input has the wrong length"},
+    {9, POCKET_SPARE_BIT, "the input has a spare bit set"},
+    {10, POCKET_ROBUSTNESS, "the required robustness is above 7"},
+    {11, POCKET_NO_ROOM, "the room is too short"},
+    {12, POCKET_TOO_MANY, "too many packets"},
+    {13, POCKET_COUNT, "the sequence count is above 16383"},
+    {14, POCKET_TOO_LONG, "the packet is too long"},
+    {15, POCKET_NO_TEXT, "it is not UTF-8"},
+    {16, POCKET_TOO_MANY_WORDS, "the command has too many arguments"},
+    {17, POCKET_NOT_KEPT, "no such name is kept"},
+    {250, POCKET_APID, "the APID is above 2046"},
+    {251, POCKET_NO_DATA, "a Space Packet has a byte of data at least"},
+    {252, POCKET_NO_STATE, "it is no state"},
+    {253, POCKET_OTHER_STATE, "it is a state of the other kind or of other bits"},
+    {254, POCKET_BROKEN, "its memory was damaged"},
+    {255, POCKET_NULL, "a pointer is null"},
+};
+
 static void texts(void)
 {
-    const char *none = pocket_status_text(1000);
-    uint32_t one, other, known = 0;
+    static const pocket_kind kinds[] = {POCKET_WRITTEN, POCKET_REPEAT, POCKET_UNSYNCED, POCKET_GAP, POCKET_WRONG, POCKET_EARLY};
+    uint32_t number, at = 0;
 
     check(strcmp(pocket_version(), POCKET_VERSION) == 0, "the version of the library is that of its header");
-    for (one = 0; one < 256; one++) {
-        known += pocket_status_text(one) != none;
-        for (other = 0; other < one; other++)
-            check(pocket_status_text(one) == none || strcmp(pocket_status_text(one), pocket_status_text(other)) != 0, "each answer has a text of its own");
+    for (number = 0; number < 1000; number++) {
+        const bool is_answer = at < sizeof answers / sizeof *answers && number == answers[at].number;
+        check(strcmp(pocket_status_text(number), is_answer ? answers[at].text : "no call answers this") == 0, "the text of an answer");
+        check(!is_answer || answers[at].status == number, "the number of an answer");
+        at += is_answer;
     }
-    check(known == 24, "each answer has a text");
+    check(at == sizeof answers / sizeof *answers, "each answer has a text");
+    for (number = 0; number < 6; number++)
+        check((uint32_t)kinds[number] == number, "the number of a kind");
 }
 
 static void headers(void)
@@ -132,7 +171,9 @@ static void numbers(void)
     check(pocket_bits(NULL, &bits) == POCKET_NULL && pocket_sent(NULL, &sent) == POCKET_NULL, "null has no bits");
     check(pocket_bits(&sender, NULL) == POCKET_NULL && pocket_sent(&sender, NULL) == POCKET_NULL, "bits to null");
 #ifndef POCKET_NO_DESK
+    one.length = 5;
     check(pocket_desk_open(&sender) == POCKET_DONE && pocket_bits(&sender, &bits) == POCKET_OTHER_KIND && pocket_sent(&sender, &sent) == POCKET_OTHER_KIND, "a desk has no bits");
+    check(pocket_save(&sender, one.data, ROOM, &one.length) == POCKET_OTHER_KIND && one.length == 5 && pocket_load(&sender, one.data, 1) == POCKET_OTHER_KIND, "a desk has no state");
     pocket_close(&sender);
 #endif
 }
@@ -242,12 +283,66 @@ static void restarts(void)
     check(wrong > 0, "with the counts going on contents are given that were not sent");
 }
 
+/* How many of fifty packets are right, wrong and unwritten, of a sender that goes on from a state so many packets before its last one. Since
+ * then a bit outside its mask turned; so many numbers are left out after that of the state, and the first packets are lost. */
+static fates went_on(uint8_t robustness, unsigned since, unsigned left_out, unsigned lost)
+{
+    pocket_handle sender = POCKET_NOTHING, receiver = POCKET_NOTHING;
+    uint8_t state[POCKET_SENDER_STATE_BYTES(BITS)];
+    fates told = {0, 0, 0};
+    const unsigned turned = (unsigned)drawn(since + 1);
+    size_t length = 0;
+    unsigned t;
+    bool is_right;
+
+    begin();
+    open_both(&sender, &receiver);
+    for (t = 0; t < MANY + since; t++) {
+        packet one;
+        if (t == MANY)
+            check(pocket_save(&sender, state, sizeof state, &length) == POCKET_DONE, "a state is saved");
+        input[6] ^= t == MANY + turned;
+        one = made_as(&sender, robustness, t >= MANY && drawn(4) == 0, false);
+        found(&receiver, t, &one, &is_right);
+        check(is_right, "a packet before a restart");
+    }
+    if (since > 0)
+        check(pocket_load(&sender, state, length) == POCKET_DONE, "a state is loaded");
+    for (t = 0; t < 50; t++) {
+        packet one = made_as(&sender, robustness, false, t <= robustness);
+        pocket_finding finding;
+        if (t < lost)
+            continue;
+        finding = found(&receiver, MANY + left_out + t, &one, &is_right);
+        told.right += is_right;
+        told.wrong += finding.kind == POCKET_WRITTEN && !is_right;
+        told.unwritten += finding.kind != POCKET_WRITTEN;
+    }
+    close_both(&sender, &receiver);
+    return told;
+}
+
+static void older_states(void)
+{
+    unsigned number, robustness, wrong = 0;
+
+    for (number = 0; number < 50; number++)
+        for (robustness = 0; robustness <= POCKET_MOST_ROBUSTNESS; robustness++) {
+            const unsigned most = (unsigned)drawn(41), since = (unsigned)drawn(most + 1), lost = (unsigned)drawn(robustness + 1);
+            check(went_on((uint8_t)robustness, since, most + 16, lost).right == 50 - lost, "16 counts are left out after the last packet that may have been sent");
+            check(went_on((uint8_t)robustness, most, most + 16, lost).right == 50 - lost, "16 counts are left out after the last packet");
+            wrong += went_on((uint8_t)robustness, 17, 16, 0).wrong;
+        }
+    check(wrong > 0, "with 16 counts left out after the state contents are given that were not sent");
+}
+
 int main(void)
 {
     texts();
     headers();
     numbers();
     restarts();
+    older_states();
 #ifndef POCKET_NO_DESK
     out_of_order();
 #endif

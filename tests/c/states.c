@@ -43,10 +43,13 @@ static end opened(uint32_t kind, uint32_t bits)
 
 static size_t saved(end *one, uint8_t *to)
 {
+    static uint8_t unwritten[ROOM];
     size_t length = 0;
     const size_t most = pocket_state_bytes(one->bits, one->kind);
+    memset(unwritten, 0x5A, sizeof unwritten), memset(to, 0x5A, most);
     check(most == (one->kind == POCKET_OF_SENDER ? POCKET_SENDER_STATE_BYTES(one->bits) : POCKET_RECEIVER_STATE_BYTES(one->bits)), "the most bytes", one->bits);
     check(pocket_save(&one->handle, to, most - 1, &length) == POCKET_NO_ROOM && length == 0, "a byte less than the most", one->bits);
+    check(memcmp(to, unwritten, most) == 0, "a refused save writes", one->bits);
     check(pocket_save(&one->handle, to, most, &length) == POCKET_DONE && length <= most, "it is saved", one->bits);
     check(length < 14 || sum_of(to, length - 4) == ((uint32_t)to[length - 4] << 24 | (uint32_t)to[length - 3] << 16 | (uint32_t)to[length - 2] << 8 | to[length - 1]),
           "its sum", one->bits);
@@ -180,12 +183,20 @@ static void renumber(end *one, uint64_t packets)
     loads(one, state, length, false);
 }
 
-/* An end takes the packets that are left up to 4,294,967,296, and no more. */
-static void took(end *one, uint64_t packets)
+/* An end that made some calls takes the packets that are left up to 4,294,967,296, and no more. */
+static void took(uint32_t kind, uint32_t bits, uint64_t packets)
 {
-    for (renumber(one, packets); packets < (uint64_t)1 << 32; packets++)
-        check(calls(one, (unsigned)packets) == POCKET_DONE, "a packet before the last one", one->bits);
-    check(calls(one, 1) == POCKET_TOO_MANY && calls(one, 2) == POCKET_TOO_MANY, "a packet after the last one", one->bits);
+    end one = opened(kind, bits);
+    const unsigned long were = taken;
+    unsigned number;
+    for (number = 0; number < 30; number++)
+        calls(&one, number);
+    renumber(&one, packets);
+    check(taken == were + 1, "a state with its last numbers is taken", packets);
+    for (; packets < (uint64_t)1 << 32; packets++)
+        check(calls(&one, (unsigned)packets) == POCKET_DONE, "a packet before the last one", bits);
+    check(calls(&one, 1) == POCKET_TOO_MANY && calls(&one, 2) == POCKET_TOO_MANY, "a packet after the last one", bits);
+    pocket_close(&one.handle);
 }
 
 static void tries(uint32_t kind, uint32_t bits, unsigned long count)
@@ -204,10 +215,12 @@ static void tries(uint32_t kind, uint32_t bits, unsigned long count)
     check(pocket_load(&other.handle, state, length) == POCKET_OTHER_STATE, "a state of the other kind", bits);
     for (; count > 0; count--)
         loads(&one, state, grown(&one), count % 10 == 0);
-    took(&one, 4294967294u), took(&one, (uint64_t)1 << 32);
+    took(kind, bits, 4294967294u), took(kind, bits, (uint64_t)1 << 32);
     check(pocket_save(NULL, after, ROOM, &length) == POCKET_NULL && pocket_save(&one.handle, NULL, ROOM, &length) == POCKET_NULL &&
           pocket_save(&one.handle, after, ROOM, NULL) == POCKET_NULL && pocket_load(NULL, after, 1) == POCKET_NULL &&
           pocket_load(&one.handle, NULL, 1) == POCKET_NULL, "null", bits);
+    length = 5;
+    check(pocket_save(&one.handle, NULL, 0, &length) == POCKET_NO_ROOM && length == 5 && pocket_load(&one.handle, NULL, 0) == POCKET_NO_STATE, "null of no byte", bits);
     pocket_close(&one.handle), pocket_close(&other.handle);
     check(pocket_load(&one.handle, state, length) == POCKET_IS_CLOSED && pocket_save(&one.handle, after, ROOM, &length) == POCKET_IS_CLOSED, "a closed handle", bits);
 }

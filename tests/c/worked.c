@@ -112,6 +112,8 @@ static void wrong_openings(void)
     refused(pocket_sender_open(&handle, 0xFFFFFFFF, NULL, 0), POCKET_BITS, "a sender of the most bits that fit");
     refused(pocket_receiver_open(&handle, 0), POCKET_BITS, "a receiver of no bits");
     refused(pocket_receiver_open(&handle, POCKET_MOST_BITS + 1), POCKET_BITS, "a receiver of 49,153 bits");
+    refused(pocket_sender_open(&handle, 0, mask, 2), POCKET_BITS, "no bits, and a mask");
+    refused(pocket_sender_open(&handle, POCKET_MOST_BITS + 1, mask, 1), POCKET_BITS, "49,153 bits, and a mask of one byte");
     refused(pocket_sender_open(&handle, 8, mask, 2), POCKET_MASK_LENGTH, "a mask of two bytes");
     refused(pocket_sender_open(&handle, 9, mask, 1), POCKET_MASK_LENGTH, "a mask of one byte");
     refused(pocket_sender_open(&handle, 9, mask, 2), POCKET_MASK_SPARE_BIT, "a spare bit of a mask");
@@ -126,9 +128,18 @@ static void wrong_openings(void)
     check(pocket_receiver_open(&handle, 8) == POCKET_DONE && pocket_close(&handle) == POCKET_DONE, "a handle that is opened again");
 }
 
+/* An arrival that isn't written leaves the content as it was. */
+static void unwritten(pocket_handle *receiver, unsigned count, const uint8_t *data, size_t length, pocket_kind kind, const char *what)
+{
+    memset(out.content, 0x5A, sizeof out.content);
+    check(receive_next(receiver, count, data, length, 2) == POCKET_DONE && out.finding.kind == (uint32_t)kind, what);
+    check(memcmp(out.content, before.content, sizeof out.content) == 0, what);
+}
+
 /* The four packets of a worked stream; before each, everything wrong is tried. */
 static void stream(pocket_handle *sender, pocket_handle *receiver)
 {
+    static const uint8_t wrong[2] = {0x44, 0xC1};
     pocket_tally tally;
     unsigned t;
 
@@ -146,10 +157,15 @@ static void stream(pocket_handle *sender, pocket_handle *receiver)
         check(out.content[0] == inputs[t] && out.content[1] == 0x5A, "its content");
         check(out.finding.lost == (t == 3) && out.finding.first_lost == (t == 3 ? 2u : 0u), "what was lost before it");
     }
-    check(receive_next(receiver, 3, out.data, out.length, 2) == POCKET_DONE && out.finding.kind == POCKET_REPEAT, "a repeat");
-    check(receive_next(receiver, 4, packets[0].data, 1, 2) == POCKET_DONE && out.finding.kind == POCKET_EARLY, "an early end");
+    unwritten(receiver, 3, out.data, out.length, POCKET_REPEAT, "a repeat");
+    unwritten(receiver, 4, packets[0].data, 1, POCKET_EARLY, "an early end");
     check(pocket_counts(receiver, &tally) == POCKET_DONE, "the counts");
     check(tally.packets == 5 && tally.written == 3 && tally.repeats == 1 && tally.listed == 2, "the numbers of the counts");
+    unwritten(receiver, 5, NULL, 0, POCKET_EARLY, "null data of no byte");
+    unwritten(receiver, 6, wrong, 2, POCKET_WRONG, "a wrong bit");
+    unwritten(receiver, 20, packets[2].data, 2, POCKET_GAP, "a gap");
+    check(pocket_receiver_reset(receiver) == POCKET_DONE, "a reset");
+    unwritten(receiver, 2, packets[2].data, 2, POCKET_UNSYNCED, "a packet that builds on another one");
 }
 
 /* The same stream three times: of new ends, after a reset, and after one that follows another stream with a first mask. */
@@ -299,6 +315,7 @@ static void wrong_at_desk(pocket_handle *desk, pocket_handle *other, pocket_stat
     refused(pocket_word(desk, NULL), POCKET_NULL, "a null word");
     refused(pocket_run(NULL, text, sizeof text, &out.length, &out.level), POCKET_NULL, "a run at null");
     refused(pocket_run(desk, NULL, sizeof text, &out.length, &out.level), POCKET_NULL, "a null text");
+    refused(pocket_run(desk, NULL, 0, &out.length, &out.level), POCKET_NULL, "a null text of no byte");
     refused(pocket_run(desk, text, sizeof text, NULL, &out.level), POCKET_NULL, "a null length of a text");
     refused(pocket_run(desk, text, sizeof text, &out.length, NULL), POCKET_NULL, "a null exit number");
     refused(pocket_get(NULL, "in", out.data, ROOM, &out.length), POCKET_NULL, "a get at null");
@@ -322,6 +339,7 @@ static void desk(void)
     static const char *const names[] = {"b", "cut", "p", "r", "s", "x", NULL}, *const left[] = {"", "b", "p", "r", "s", NULL};
     pocket_handle held = POCKET_NOTHING, none = POCKET_NOTHING, sender = POCKET_NOTHING;
     uint8_t played[29];
+    size_t length = 0x5A;
     unsigned word;
 
     memcpy(played, store, 20);
@@ -347,6 +365,9 @@ static void desk(void)
     runs(&held, 4, "store packet at byte 0 is cut");
     check(pocket_put(&held, "x", NULL, 0) == POCKET_DONE, "no byte");
     keeps(&held, "x", "", 0);
+    check(pocket_get(&held, "x", NULL, 0, &length) == POCKET_DONE && length == 0, "no byte to null");
+    check(pocket_get(&held, "s", NULL, 0, &length) == POCKET_NO_ROOM && length == sizeof store, "bytes to null");
+    check(pocket_name_from(&held, NULL, 0, NULL, 0, &length) == POCKET_NO_ROOM && length == 1, "the first name, to null");
     named(&held, names);
     check(pocket_remove(&held, "x") == POCKET_DONE && pocket_remove(&held, "x") == POCKET_NOT_KEPT, "a removal, once");
     check(pocket_remove(&held, "cut") == POCKET_DONE && pocket_put(&held, "", played, 1) == POCKET_DONE, "the empty name");
