@@ -103,6 +103,10 @@ class Advise(LibraryTest):
         self.files.put("script", script + b"drop,5,3,1\n")
         self.assertEqual(self.plan("packets=1000", "rows=3", "shift=1"), "script row 7 is wrong")
         self.assertEqual(self.files.run(advise, "packets=9"), "script= is missing")
+        for word in ("rows", "shift"):
+            for number in ("-1", "1001", "01", ""):
+                words = {"packets": "9", "rows": "1", "shift": "0", word: number}
+                self.assertEqual(self.plan(*(f"{key}={value}" for key, value in words.items())), f"{word}={number}: {word}= takes a number from 0 to 1000")
         self.assertEqual(self.plan("packets=0", "rows=1"), "packets=0: packets= takes a number from 1 to 1000000")
 
     def test_shifts(self):

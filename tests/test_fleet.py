@@ -17,7 +17,7 @@ from unittest import mock
 
 from library import LibraryTest, need
 from packets import packets_of
-from program import PROGRAM, SAMPLES
+from program import PROGRAM, SAMPLES, Folder
 from rows import sample
 
 try:
@@ -71,6 +71,27 @@ def dying(place, is_sent, kind):
 
     with mock.patch.object(redis.Connection, "send_packed_command", sent), contextlib.suppress(Died, redis.RedisError):
         yield
+
+
+class Points(LibraryTest):
+    """The points of a reader, of an engine that has two batches of a spacecraft and no more."""
+
+    def test_clock(self):
+        """Of a batch in which the clock stands still no point is printed, which is told; it is taken out, and the next one is printed."""
+        room = Folder(self.enterContext(tempfile.TemporaryDirectory(prefix="pocket-points-")))
+        room.put("fields", "field,0,8,u,clock\n")
+        stores = [b"".join(bytes.fromhex(f"0064C00{count}0000{clock:02X}") for count, clock in some) for some in (((0, 5), (1, 5)), ((2, 7), (3, 8)))]
+        entries = [(f"{place}-0", {b"craft": b"X1", b"report_at": b"0", b"report": b"", b"store_at": str(14 * place).encode(), b"store": store,
+                                   b"numbers": json.dumps({"100": [2 * place, 2 * place + 1]}).encode()}) for place, store in enumerate(stores)]
+        engine = mock.Mock(**{"hget.return_value": b'{"100": 8}', "xrange.return_value": entries})
+        said = {"fields": room.at("fields"), "apid": "100", "time": "clock", "epoch": "1970-01-01T00:00:00Z", "unit": "1"}
+        out, told = io.StringIO(), io.StringIO()
+        with contextlib.redirect_stdout(out), contextlib.redirect_stderr(told):
+            self.assertEqual(read.write(engine, room.folder, "found", said, read.numbers.Clock(said)), 2)
+        self.assertEqual(out.getvalue(), "".join(f"pocket,spacecraft=X1,apid=100 number={number}i,clock={clock}i {clock}000000000\n" for number, clock in ((2, 7), (3, 8))))
+        self.assertEqual(told.getvalue(), "X1: the packets 0 and 1 have one time, 1970-01-01T00:00:05Z: Influx would keep one of them alone\n")
+        self.assertEqual(room.get("X1.store"), b"".join(stores))
+        engine.xdel.assert_called_once_with("found", "0-0", "1-0")
 
 
 class Spacecraft(LibraryTest):

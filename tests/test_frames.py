@@ -238,10 +238,22 @@ class Frames(LibraryTest):
         self.assertEqual(taken(b"", length=15)[1], ["0 frames were read, 0 of them bad, 0 of other spacecraft, and 0 were taken: length=, sync=, control=, scid= or vcid= may be wrong"])
         self.assertEqual(taken(frame_of(2, 7, 0, bytes(9)), length=15, vcid=3)[3], 4)
 
+    def test_many_lines(self):
+        """Of bad frames before good ones so many lines are told, and the others counted; more than half of all frames have to be bad for the status 4."""
+        good = [frame_of(2, number % 256, 0, PACKET) for number in range(400)]
+        with mock.patch.object(frames, "LINES", 150):
+            for bad, wanted in ((150, 0), (151, 0), (400, 0), (401, 4)):
+                found, told, sums, status = taken(b"\xff" * 15 * bad + b"".join(good), length=15)
+                self.assertEqual((found, status, sums["read"], sums["bad"]), (PACKET * 400, wanted, 400 + bad, bad), told)
+                if wanted == 0:
+                    lines = [f"the frame at byte {15 * place} is of another version: it counts as missing" for place in range(150)]
+                    more = [f"{bad - 150} lines more, of the next frames, are left out"] if bad > 150 else []
+                    self.assertEqual((told[:-2], len(told)), (lines + more, len(lines + more) + 2))
+
     def test_refused(self):
         for words, wanted in [([], "length= is missing"), (["length=7"], "length=7: length= takes a number from 8 to 2048"), (["length=8", "length=9"], "length= is given twice"),
                               (["size=8"], "size=8: the arguments are length=, vcid=, scid=, sync=, control=, out=, report="),
-                              (["length=8", "scid=1024"], "scid=1024: scid= takes a number from 0 to 1023")]:
+                              (["length=2049"], "length=2049: length= takes a number from 8 to 2048"), (["length=8", "vcid=8"], "vcid=8: vcid= takes a number from 0 to 7"), (["length=8", "scid=1024"], "scid=1024: scid= takes a number from 0 to 1023")]:
             with self.subTest(words), self.assertRaises(ToolError) as refusal:
                 frames.run(words)
             self.assertEqual(str(refusal.exception), wanted)

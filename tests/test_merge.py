@@ -189,7 +189,7 @@ def is_within(packets, others):
 
 # What is refused: the words, and what is told, if it is one text.
 REFUSALS = [
-    ("a cut", "cut: the packet at byte 0 is cut"), ("a none", "none: the packet at byte 0 is cut"), ("a two near=1", "two has packets of 2 APIDs: say near=APID:N"),
+    ("a cut", "cut: the packet at byte 0 is cut"), ("a none", "none: the packet at byte 0 is cut"), ("a odd", "odd: at byte 8 begins no Space Packet"), ("a two near=1", "two has packets of 2 APIDs: say near=APID:N"),
     ("a back", "back: from the packet of APID 100 at byte 0 to the one at byte 8 the count goes from 5 to 4: it isn't in order there, it began anew, or too many are lost"),
     ("a hurt near=40", "the packets of APID 100 and count 45 at byte 360 of a and at byte 40 of hurt are one by their number and have other data: near= is wrong, or one of them is damaged"),
     ("a twice near=0", "the packets of APID 100 and count 0 at byte 0 of twice and at byte 8 of twice are one by their number and have other data: one of them is damaged, or 16,383 are lost between them"),
@@ -297,7 +297,7 @@ class Merge(LibraryTest):
     def test_refusals(self):
         """Each refusal, with its places."""
         sent = [packet(100, number, bytes([number % 251, number % 13])) for number in range(20000)]
-        self.files.put_all(a=sent[:50], b=sent[40:60], cut=sent[0][:-1], none=b"\xff" * 7, back=sent[5] + sent[4], short=sent[8000:8300], twice=sent[0] + sent[0][:-1] + b"\xff",
+        self.files.put_all(a=sent[:50], b=sent[40:60], cut=sent[0][:-1], none=b"\xff" * 7, odd=sent[0] + b"\x20" + sent[1][1:], back=sent[5] + sent[4], short=sent[8000:8300], twice=sent[0] + sent[0][:-1] + b"\xff",
                            hurt=sent[40:45] + [sent[45][:-1] + b"\xff"] + sent[46:60], two=sent[0] + packet(101, 0, b"\0"), far=sent[8192:8195], idle=[packet(2047, 5, b"\0\0"), *sent[:50]])
         for words, wanted in REFUSALS:
             with self.subTest(words):
@@ -309,6 +309,59 @@ class Merge(LibraryTest):
             first, second = [number for number in range(19500) if number % 7 == 3], [number for number in range(19500 - common, 20000) if number % 5 == 0]
             self.files.put_all(a=[sent[number] for number in first], b=[sent[number] for number in second])
             self.assertEqual(self.files.joined(f"a b near={19510 - common}")[0], [sent[number] for number in sorted({*first, *second})], common)
+
+    def test_changed(self):
+        """A record that changes while it is joined: what is added isn't read, and where a packet is gone or has become another APID's, that is told."""
+        sent = [packet(100, number, number.to_bytes(4, "big")) for number in range(15000)]
+        own = {"a": sent[:10000], "b": sent[5000:]}
+        second = b"".join(own["b"])
+        self.assertEqual(self.changed(own, "b", second + sent[0]), (sent, 0))
+        self.assertEqual(self.changed(own, "b", second[:-5])[1], f"b: the packet at byte {len(second) - 10} is cut")
+        for name, packets in own.items():
+            for apid in (101, 2047):
+                _, told = self.changed(own, name, b"".join(packet(apid, 0, whole[6:]) for whole in packets))
+                self.assertEqual(told, f"{name} was changed while it was read", apid)
+
+    def test_changed_anyhow(self):
+        """However a record changes while it is joined, it is joined as it was, or that is refused."""
+        draw = random.Random(20261202)
+        for turn in range(60):
+            streams = {apid: [(number, packet(apid, number, number.to_bytes(4, "big"))) for number in range(1500)] for apid in (100, 101)}
+            own = {name: [whole for _, whole in woven(draw, {apid: rows[first:last] for apid, rows in streams.items()})] for name, first, last in (("a", 0, 1000), ("b", 500, 1500))}
+            name = draw.choice("ab")
+            packets = own[name][:]
+            if draw.random() < 0.3:
+                draw.shuffle(packets)
+            first, last = sorted(draw.randrange(len(packets)) for _ in range(2))
+            put = draw.choice([lambda whole: b"", lambda whole: packet(2047, 0, whole[6:]), lambda whole: packet(draw.choice([100, 101, 102]), draw.randrange(1500), whole[6:]), lambda whole: draw.randbytes(10)])
+            with self.subTest(turn):
+                found, told = self.changed(own, name, b"".join([*packets[:first], *map(put, packets[first:last]), *packets[last:]]), "near=100:500 near=101:500")
+                self.assertTrue(isinstance(told, str) or sorted(found) == sorted(whole for rows in streams.values() for _, whole in rows), told)
+
+    def changed(self, own, name, changed, near="near=5000"):
+        """What is joined of two records of which one has another content after the first packet, and the status or the refusal."""
+        self.files.put_all(**own)
+        records, _ = merge.records_of([self.files.at("a"), self.files.at("b"), *near.split()])
+        found = []
+
+        def write(whole):
+            found.append(whole)
+            if len(found) == 1:
+                self.files.put(name, changed)
+
+        try:
+            return found, merge.joined(records, False, write, lambda text: None)
+        except ToolError as refusal:
+            return found, str(refusal).replace(self.files.folder + os.sep, "")
+
+    def test_folder(self):
+        """The folder in which a pipe is kept is gone after all is joined, and after a refusal."""
+        one = packet(100, 0, b"\0")
+        for second, status in ((one, 0), (one[:-1], 1)):
+            own = self.enterContext(tempfile.TemporaryDirectory(prefix="pocket-merge-"))
+            self.files.put_all(a=one)
+            ran = subprocess.run([sys.executable, "-m", "pocket", "merge", self.files.at("a"), "-", "near=0"], input=second, capture_output=True, env={**os.environ, "TMPDIR": own})
+            self.assertEqual((ran.returncode, ran.stdout, os.listdir(own)), (status, one if status == 0 else b"", []), ran.stderr)
 
     def test_memory(self):
         """Two records of 15,000 packets of 128 bytes, of which one is a pipe and an APID is in one alone, are joined within 30 MB."""

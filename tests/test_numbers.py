@@ -9,7 +9,7 @@ import re
 import tempfile
 
 from library import LibraryTest, ToolFolder
-from pocket import numbers, pack
+from pocket import numbers, pack, run as command
 from table import table
 
 ROUNDS = 60
@@ -101,6 +101,7 @@ REFUSED = [
     ((numbers, "table=more", "report=streams", "apid=100"), "more has 5 packets, and by streams 4 of APID 100 were restored: the table has to be that of this APID's packets alone, which restore apid=100 gives"),
     ((numbers, *WORDS, "time=x", "epoch=2000-01-01T00:00:00Z", "unit=1"), "time=x: the table has no such field"),
     ((numbers, *WORDS, "fields=turned", "bits=16"), "the fields of turned are not those of table"),
+    *(((numbers, *WORDS, "fields=empty", "bits=16", *words), "the fields of empty are not those of table") for words in ([], INFLUX, ["as=events"])),
     ((numbers, *WORDS, "unti=1"), "unti=1: did you mean unit=?"),
     ((numbers, "table=table"), "report= is missing"),
     ((pack, *FIELDS, "in=columns"), "columns: line 1, column 2: no field has the name u"),
@@ -179,6 +180,20 @@ class Numbers(LibraryTest):
         self.assertEqual(self.files.run(numbers, *WORDS, "time=t", "epoch=2000-01-01T00:00:00Z", "unit=0.001").splitlines()[1], b"1,2000-01-01T00:00:00.001Z,1,-16")
         self.assertEqual(self.files.run(pack, *FIELDS, "in=table"), bytes.fromhex("01F0 0228 03F4 0429"), "a field named t")
 
+    def test_ends(self):
+        """A parameter file with a mark of its byte order, and each end of lines, is taken as by the command `table`; another mark or letter is refused."""
+        wanted = self.files.run(pack, *FIELDS, "in=table")
+        for mark in ("", "\ufeff"):
+            for end in ("\n", "\r\n", "\r"):
+                own = mark + TEXTS["fields"].replace("\n", end)
+                self.files.put("ends", own)
+                self.assertEqual(self.files.run(pack, "fields=ends", "bits=16", "in=table"), wanted, own)
+                told = command(*"table in=in fields=fields out=out report=report bits=16".split(), inputs={"in": wanted, "fields": own.encode()})
+                self.assertEqual(told["out"].decode(), TEXTS["table"], own)
+        for own in (b"\xff\xfe", "\ufeff\ufeff".encode(), b"#\xe9"):
+            self.files.put("ends", own + TEXTS["fields"].encode())
+            self.assertEqual(self.files.run(pack, "fields=ends", "bits=16", "in=table"), "ends is no text of ASCII letters")
+
     def test_influx(self):
         point = lambda *words: self.files.run(numbers, *words, *FIELDS, *INFLUX).splitlines()[0].decode()
         self.assertEqual(point(*WORDS), "pocket number=1i,t=1i,temp=-16i 2000000000")
@@ -188,6 +203,19 @@ class Numbers(LibraryTest):
         self.assertEqual(point(*WORDS, "measurement=\u00e9t\u00e9"), "\u00e9t\u00e9 number=1i,t=1i,temp=-16i 2000000000")
         self.assertEqual(self.files.run(numbers, *WORDS, *FIELDS, *INFLUX[:2], "step=0"), "the packets 1 and 2 have one time, 1970-01-01T00:00:01Z: Influx would keep one of them alone")
 
+    def test_influx_times(self):
+        """The last times that Influx takes, before 1970 and after, and the next ones."""
+        for begin, units, is_taken in (("2262-04-11T23:47:16Z", 854775806, True), ("2262-04-11T23:47:16Z", 854775807, False), ("2262-04-11T23:47:16Z", 854775808, False),
+                                       ("1677-09-21T00:12:43Z", 145224194, True), ("1677-09-21T00:12:43Z", 145224193, False), ("1677-09-21T00:12:43Z", 0, False),
+                                       ("9999-12-31T23:59:59Z", 2**64 - 1, False)):
+            self.files.put("table", f"t,clock\n0,{units}\n")
+            self.files.put("report", "first,last,cause,value\n0,6,lost,0\nend,8,1,0\n")
+            self.files.put("fields", "field,0,64,u,clock\n")
+            found = self.files.run(numbers, *WORDS, "fields=fields", "bits=64", "as=influx", "time=clock", f"epoch={begin}", "unit=0.000000001")
+            time = int((datetime.datetime.strptime(begin, "%Y-%m-%dT%H:%M:%SZ") - datetime.datetime(1970, 1, 1)).total_seconds()) * 10**9 + units
+            self.assertEqual(found, f"pocket number=7i,clock={units}u {time}\n".encode() if is_taken else
+                             f"the packet 7 is {time} nanoseconds after 1970, which Influx doesn't take: 9223372036854775806 at most, before 1970 or after")
+
     def test_restart(self):
         """A restart on board may be where many are lost, which is told beside times."""
         self.assertEqual(self.files.run(numbers, "table=table", "report=restart", *INFLUX[1:]),
@@ -196,6 +224,26 @@ class Numbers(LibraryTest):
                          "times by start= and step= are wrong from 19 on; time= takes them from a field\n")
         self.files.run(numbers, "table=table", "report=restart")
         self.assertEqual(self.files.told, "")
+
+    def test_least_restart(self):
+        """A loss of 16 packets is told, and one of 15 isn't."""
+        for lost in (1, 2, 15, 16, 17):
+            self.files.put("one", f"first,last,cause,value\n2,{lost + 1},lost,0\nend,{lost + 4},4,0\n")
+            self.files.run(numbers, "table=table", "report=one", *INFLUX[1:])
+            self.assertEqual(self.files.told, f"pocket numbers: one: the packets 2 to {lost + 1} are lost: if the board restarted there, times by start= and step= are wrong from {lost + 2} on; "
+                             "time= takes them from a field\n" if lost > 15 else "", lost)
+
+    def test_seconds(self):
+        """Seconds have up to nine places behind the point."""
+        for step, wanted in (("0.000000001", "1970-01-01T00:00:01.000000001Z"), ("1.5", "1970-01-01T00:00:02.5Z"), ("1.123456789", "1970-01-01T00:00:02.123456789Z"), ("0.0000000001", None), (".5", None), ("1.", None)):
+            found = self.files.run(numbers, *WORDS, *INFLUX[1:2], f"step={step}")
+            self.assertEqual(found.splitlines()[1].split(b",")[1].decode() if wanted else found, wanted or f"step={step}: step= takes seconds, with up to nine places behind the point")
+
+    def test_passed_over(self):
+        """`pack` passes over columns t and number that are no fields, as those of a table of `numbers`."""
+        self.files.put("own", "field,0,8,u,mode\nfield,8,8,s,temp\n")
+        self.files.put("over", "number,t,temp,mode\n7,0,-16,1\n9,1,40,2\n")
+        self.assertEqual(self.files.run(pack, "fields=own", "bits=16", "in=over"), bytes.fromhex("01F0 0228"))
 
     def test_events(self):
         self.assertEqual(self.files.run(numbers, *WORDS, *FIELDS, "as=events").splitlines()[1:], [b"temp,low,-10,1,,2,,1,-16,1,", b"temp,low,-10,5,,6,,1,-12,5,", b"temp,high,40,6,,,,1,41,6,"])

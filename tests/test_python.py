@@ -2,6 +2,7 @@
 
 import ctypes
 import os
+from unittest import mock
 
 from library import LibraryTest
 import pocket
@@ -29,6 +30,15 @@ class Python(LibraryTest):
                 self.refuses(pocket.BitsOutOfRange, "a vector has 1 to 49152 places", kind, bits)
         self.refuses(pocket.WrongLength, "the mask has the wrong length", pocket.Sender, 8, b"\x0f\xff")
         self.refuses(pocket.SpareBitSet, "the mask has a spare bit set", pocket.Sender, 9, b"\x0f\xff")
+
+    def test_index(self):
+        """Bits are anything that is a whole number."""
+        class Nine:
+            __index__ = lambda self: 9
+
+        with pocket.Sender(Nine()) as sender, pocket.Receiver(Nine()) as receiver:
+            self.assertEqual((sender.bits, receiver.bits), (9, 9))
+            self.assertEqual(receiver.receive(0, sender.send(b"\x12\x80", 1).data).content, b"\x12\x80")
 
     def test_worked(self):
         """The worked packets, twice with a reset between them, and what is refused, which changes nothing."""
@@ -60,6 +70,34 @@ class Python(LibraryTest):
         self.assertEqual(receiver.receive(4, b"\x43\x00"), pocket.Arrival(4, pocket.Kind.WRONG, 8, range(0), False, None))
         self.assertEqual(receiver.counts(), pocket.Counts(5, 3, 1, 2))
 
+    def test_interrupted_words(self):
+        """A command that is interrupted before it runs does nothing, and the next one has its own words alone."""
+        library, word = pocket.calls.library, pocket.calls.library.pocket_word
+
+        def interrupted(place, is_taken):
+            """The call that takes a word, interrupted at one of them, before it is taken or after."""
+            calls = iter(range(place + 1))
+
+            def taken(*own):
+                is_last = next(calls, None) == place
+                if not is_last or is_taken:
+                    self.assertEqual(word(*own), 0)
+                if is_last:
+                    raise KeyboardInterrupt
+                return 0
+            return taken
+
+        with pocket.Desk() as desk:
+            desk.put("x", RECORDING)
+            for place in range(len(COMPRESS)):
+                for is_taken in (False, True):
+                    with mock.patch.object(library, "pocket_word", interrupted(place, is_taken)):
+                        self.refuses(KeyboardInterrupt, None, desk.run, *COMPRESS)
+                    self.assertEqual(desk.names(), ["x"])
+                    desk.run(*COMPRESS)
+                    self.assertEqual(desk.get("s"), STORE)
+                    desk.remove("s")
+
     def test_masks(self):
         """A first mask, and inputs of 13 bits."""
         with pocket.Sender(8, b"\x0f") as sender:
@@ -73,6 +111,16 @@ class Python(LibraryTest):
         """The commands at a desk: the store of the inputs, and what is restored if packet 2 is lost."""
         self.assertEqual(pocket.run(*COMPRESS, inputs={"x": RECORDING}), {"s": STORE})
         self.assertEqual(pocket.run(*RESTORE, inputs={"s": PLAYED}), {"b": RESTORED, "r": REPORT})
+
+    def test_not_blocking(self):
+        """A source that has no bytes yet isn't taken as ended."""
+        reading, writing = os.pipe()
+        os.set_blocking(reading, False)
+        os.write(writing, PLAYED[:15])
+        with open(reading, "rb", buffering=0) as source, open(writing, "wb"):
+            packets = pocket.space_packets(source, 100)
+            self.assertEqual(next(packets).count, 0)
+            self.refuses(BlockingIOError, "[Errno 11] the source is in non-blocking mode", next, packets)
 
     def test_desk(self):
         with pocket.Desk() as desk:

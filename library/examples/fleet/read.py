@@ -2,7 +2,8 @@
 """read.py HOST:PORT: how many packets of each spacecraft are fed, judged, and not judged yet.
 read.py HOST:PORT FOLDER [fields=F apid=N [measurement=M] and the words for times of `python3 -m pocket numbers`]: writes what is found into
 SPACECRAFT.store and .report of a folder, as `multi` does, and takes it out of the engine, one reader at a time, until `feed.py .. end`. With
-fields it prints the points of an APID too, as `numbers` does, with the spacecraft as a tag."""
+fields it prints the points of an APID too, as `numbers` does, with the spacecraft as a tag. Points that Influx doesn't take, as those of a
+clock that stands still, are left out with those of their batch, which is told on standard error."""
 
 import io
 import json
@@ -40,7 +41,12 @@ def points(engine, entry, said, clock):
         table = command("table", "in=in", "fields=fields", "out=out", "report=report", f"bits={bits}", inputs=given)["out"].decode().splitlines()
         names, values = table[0].split(",")[1:], [[int(one) for one in line.split(",")[1:]] for line in table[1:]]
         series = numbers.series(said, [f"spacecraft:{craft}"], names)
-        print(*numbers.as_influx(names, clock.lines(names, own, values), fields.fields_of(said["fields"], bits), series), sep="\n", flush=True)
+        lines, own_fields = clock.lines(names, own, values), fields.fields_of(said["fields"], bits)
+        try:
+            print(*numbers.as_influx(names, lines, own_fields, series), sep="\n", flush=True)
+        except tool.ToolError as wrong:
+            # (a clock that stands still: its points are none, and the reader goes on)
+            print(f"{craft}: {wrong}", file=sys.stderr, flush=True)
 
 
 def write(engine, folder, found, said, clock):

@@ -1,6 +1,6 @@
 HELP = """python3 -m pocket bits=BITS apid=APID: shows what is found of the Space Packets of standard input, each as it arrives.
 
-The lines are those of the command `show`, but that a written packet has its content alone.
+The lines are those of the command `show`, but that a written packet has its content alone, and no mask is shown.
 
 `python3 -m pocket TOOL ..` does what a tool says by `--help`: `advise` finds a schedule for an assumed loss, `frames` takes packets out of
 transfer frames, `merge` joins records of several stations, `numbers` gives a table its packets' numbers and times, `pack` makes a
@@ -17,10 +17,10 @@ import os
 import sys
 from typing import Iterator, List, Tuple
 
-from . import Arrival, Kind, PocketError, Receiver, space_packets
+from . import Arrival, Kind, PocketError, Receiver, SpacePacket, space_packets
 from .calls import MOST_BITS
 from .packets import IDLE
-from .tool import ToolError, near, opened
+from .tool import ToolError, near, opened, whole_number
 
 TOOLS = ("advise", "frames", "merge", "numbers", "pack")
 WORDS = {"bits": range(1, MOST_BITS + 1), "apid": range(IDLE)}
@@ -48,16 +48,24 @@ def chosen(words: List[str]) -> Tuple[int, int]:
     if set(given) != set(WORDS) or len(words) != len(WORDS):
         raise ToolError("it takes bits=BITS and apid=APID, or the name of a tool (--help)")
     for key, allowed in WORDS.items():
-        if not (given[key].isdecimal() and len(given[key]) < 6 and int(given[key]) in allowed):
+        if whole_number(given[key], allowed[0], allowed[-1]) is None:
             raise ToolError(f"{key} is a number from {allowed[0]} to {allowed[-1]}")
     return int(given["bits"]), int(given["apid"])
+
+
+def arriving(apid: int) -> Iterator[SpacePacket]:
+    """The packets of standard input, as they arrive."""
+    try:
+        yield from space_packets(opened("-"), apid)
+    except OSError as error:
+        raise ToolError(f"-: {error.strerror}") from error
 
 
 def show(words: List[str]) -> int:
     """Shows what is found of the packets of standard input."""
     bits, apid = chosen(words)
     with Receiver(bits) as receiver:
-        for packet in space_packets(opened("-"), apid):
+        for packet in arriving(apid):
             for line in lines(receiver.receive(packet.count, packet.data)):
                 print(line, flush=True)
         counts = receiver.counts()

@@ -55,7 +55,7 @@ def forecast(packets: int, robust: int, plan: bytes, script: bytes) -> str:
     words = ("forecast", f"packets={packets}", f"robust={robust}")
     try:
         return command(*words, "out=out", "plan=plan", "script=script", inputs={"plan": plan, "script": script})["out"].decode()
-    except (OSError, AttributeError):
+    except OSError:
         # (the library isn't there, or has no desk)
         return by_program(words, plan, script)
     except PocketError as refusal:

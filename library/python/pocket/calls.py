@@ -178,8 +178,8 @@ class Sender(_Kept):
 
     def __init__(self, bits: int, mask: Data = b"") -> None:
         super().__init__(bits)
-        own = _bytes(mask)
-        done(library.pocket_sender_open(self._handle, _bits(bits), *own))
+        own, bits = _bytes(mask), _bits(bits)
+        done(library.pocket_sender_open(self._handle, bits, *own))
         self._most = (10 * bits + 50) // 8
         self._made = self._asked = _Packet(1)
 
@@ -240,7 +240,8 @@ class Receiver(_Kept):
 
     def __init__(self, bits: int) -> None:
         super().__init__(bits)
-        done(library.pocket_receiver_open(self._handle, _bits(bits)))
+        bits = _bits(bits)
+        done(library.pocket_receiver_open(self._handle, bits))
         self._size = (bits + 7) // 8
         self._judged = self._asked = _Finding(0)
 
@@ -301,12 +302,20 @@ class Desk(Held):
         coded = [_utf8(word) for word in words]
         if len(coded) > 1000:
             raise TooManyWords("the command has too many arguments")
-        for word in coded:
-            if status := library.pocket_word(self._handle, *word):
-                self._close(self._handle)
-                done(status)
         text, length, exit_number = ctypes.create_string_buffer(128), ctypes.c_size_t(), ctypes.c_uint8()
-        done(library.pocket_run(self._handle, text, len(text), length, exit_number))
+        try:
+            for word in coded:
+                if status := library.pocket_word(self._handle, *word):
+                    self._close(self._handle)
+                    break
+            else:
+                status = library.pocket_run(self._handle, text, len(text), length, exit_number)
+        except BaseException:
+            # (an interrupt: the words that are there end with a wrong one, are refused and gone)
+            library.pocket_word(self._handle, b"", 0)
+            library.pocket_run(self._handle, text, len(text), length, exit_number)
+            raise
+        done(status)
         if exit_number.value:
             raise Refused(ctypes.string_at(text, length.value).decode(), exit_number.value)
 

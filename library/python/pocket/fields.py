@@ -64,13 +64,13 @@ class Fields:
 
 def fields_of(name: str, bits: int) -> Fields:
     """The fields that a file names, of packets of so many bits."""
-    try:
-        text = contents(name).decode("ascii")
-    except UnicodeDecodeError:
-        raise ToolError(f"{name} is no text of ASCII letters") from None
+    # (it may begin with a mark of its byte order, and its lines may end with CR alone)
+    text = contents(name).decode("utf-8-sig", "replace")
+    if not text.isascii():
+        raise ToolError(f"{name} is no text of ASCII letters")
     found = Fields()
     try:
-        for place, row in enumerate((row for row in csv.reader(io.StringIO(text)) if row), 1):
+        for place, row in enumerate((row for row in csv.reader(io.StringIO(text, newline="")) if row), 1):
             if wrong := found.take(row, bits):
                 raise ToolError(f"{name}: row {place}, {','.join(row)}: {wrong}")
     except csv.Error as error:

@@ -175,17 +175,21 @@ class Run:
 
     def tell(self, text: str) -> None:
         """Tells a line once most frames are good."""
-        self.held.append(text)
         if self.sums["read"] >= FEW and not self.is_poor():
             self.tell_all()
-        if len(self.held) > LINES:
-            self.end()
+            self.tell_now(text)
+        elif len(self.held) < LINES:
+            self.held.append(text)
+        else:
+            self.sums["untold"] += 1
 
     def tell_all(self) -> None:
         """Tells the lines that wait."""
         for line in self.held:
             self.tell_now(line)
         self.held.clear()
+        if self.sums["untold"]:
+            self.tell_now(f"{self.sums.pop('untold')} lines more, of the next frames, are left out")
 
     def is_poor(self) -> bool:
         """Whether no frame was taken, or more than half are bad."""

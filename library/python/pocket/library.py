@@ -57,14 +57,17 @@ class Library:
     """The calls of the library, which is loaded as one of them is looked for: the tools that need none of them do without."""
 
     def __getattr__(self, call: str) -> Any:
-        loaded = ctypes.CDLL(os.environ.get("POCKET_LIBRARY") or _installed())
+        if call not in _CALLS:
+            raise AttributeError(call)
+        name = os.environ.get("POCKET_LIBRARY") or _installed()
+        loaded = ctypes.CDLL(name)
         for own, types in _CALLS.items():
             if hasattr(loaded, own):
                 function = getattr(loaded, own)
                 function.argtypes, function.restype = types, _RESULTS.get(own, ctypes.c_uint32)
                 setattr(self, own, function)
         if call not in self.__dict__:
-            raise AttributeError(call)
+            raise OSError(f"{name} is no libpocket, or one of another version, which has no {call}")
         return self.__dict__[call]
 
 

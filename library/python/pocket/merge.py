@@ -187,6 +187,11 @@ class Source:
         self.left = {apid: stream.packets for apid, stream in record.streams.items()}
         self.ahead: Dict[int, Deque[int]] = {apid: deque() for apid in record.streams}
         self.head = next(self.front, None)
+        self.pass_over({})
+
+    def changed(self) -> ToolError:
+        """That the record is another one than was looked at."""
+        return ToolError(f"{self.record.name} was changed while it was read")
 
     def next_number(self, apid: int) -> Optional[int]:
         """The number of its next packet of an APID that is not yet joined, if it has one."""
@@ -194,7 +199,7 @@ class Source:
         while not ahead and self.left[apid]:
             found = next(self.scout, None)
             if found is None or not self.left.get(found.apid):
-                raise ToolError(f"{self.record.name} was changed while it was read")
+                raise self.changed()
             self.left[found.apid] -= 1
             self.ahead[found.apid].append(found.number << PLACE | found.place)
         return ahead[0] >> PLACE if ahead else None
@@ -205,12 +210,22 @@ class Source:
             return self.head
         with opened(self.record.path) as source:
             at = self.ahead[apid][0] & (1 << PLACE) - 1
-            return Packet(apid, number, at, next(packets_of(self.record.name, source, at, self.record.size))[3])
+            found = next(packets_of(self.record.name, source, at, self.record.size), None)
+            if found is None or found[:3] != (apid, number % PERIOD, at):
+                raise self.changed()
+            return Packet(apid, number, at, found[3])
 
     def pass_over(self, done: Dict[int, int]) -> None:
         """Goes on to the next packet that is not yet joined."""
         while self.head is not None and self.head.number <= done.get(self.head.apid, self.head.number - 1):
             self.head = next(self.front, None)
+        if self.head is not None and not (self.left.get(self.head.apid) or self.ahead.get(self.head.apid)):
+            raise self.changed()
+
+    def end(self) -> None:
+        """Refuses a record that has lost packets."""
+        if any(self.left.values()) or any(self.ahead.values()):
+            raise self.changed()
 
 
 class Elsewhere:
@@ -286,6 +301,8 @@ class Joining:
             packet = self.join(*found)
             yield packet
             self.written += len(packet)
+        for source in self.sources:
+            source.end()
 
     def join(self, apid: int, number: int, holders: List[int]) -> bytes:
         """Takes a packet out of the records that have it."""

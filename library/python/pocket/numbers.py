@@ -31,6 +31,8 @@ KEYS = ("table", "report", "fields", "bits", "as", "apid", "start", "step", "tim
 BILLION = 10**9
 REPORT = "first,last,cause,value"
 MOST = 2**32
+# The most nanoseconds before 1970 or after it that Influx takes.
+MOST_INFLUX = 2**63 - 2
 # So many lost packets or more may be a restart on board, which leaves out so many counts.
 RESTART = 16
 
@@ -56,20 +58,20 @@ def rows_of(name: str, apid: Optional[int]) -> Rows:
     return [(place, row[1:] or [""]) for place, row in rows if row[0] == str(apid)] if apid is not None else rows
 
 
-def written(name: str, rows: Rows) -> Iterator[int]:
-    """The numbers of the packets that were restored, in order: those up to the last arrival that no row names."""
+def written(name: str, rows: Rows) -> Iterator[range]:
+    """The numbers of the packets that were restored, in order, by stretches: those up to the last arrival that no row names."""
     expected = named = 0
     for place, row in rows:
         if row[0] == "end" and len(row) == 4:
             count = whole_number(row[2], 0, MOST)
             if count is None:
                 break
-            yield from range(expected, named + count)
+            yield range(expected, named + count)
             return
         first, last = (whole_number(text, 0, 2**64) for text in (row + ["", ""])[:2])
         if len(row) != 4 or first is None or last is None or not expected <= first <= last:
             raise ToolError(f"{name}: line {place} is no row of a report: {','.join(row)}")
-        yield from range(expected, first)
+        yield range(expected, first)
         expected, named = last + 1, named + last + 1 - first
     raise ToolError(f"{name} has no row end: the store was not read to its end")
 
@@ -199,6 +201,8 @@ def as_influx(names: List[str], lines: List[Line], fields: Fields, own: str) -> 
     for line in lines:
         if line.time in before:
             raise ToolError(f"the packets {before[line.time]} and {line.number} have one time, {shown(line.time)}: Influx would keep one of them alone")
+        if line.time is None or abs(line.time) > MOST_INFLUX:
+            raise ToolError(f"the packet {line.number} is {line.time} nanoseconds after 1970, which Influx doesn't take: {MOST_INFLUX} at most, before 1970 or after")
         before[line.time] = line.number
         values = [f"{number}={line.number}i"] + [f"{name}={value}{kinds[name]}" for name, value in zip(names, line.values)]
         yield f"{own} {','.join(values)} {line.time}"
@@ -232,15 +236,16 @@ FORMS = {"csv": as_csv, "influx": as_influx, "events": as_events}
 def lines_of(said: Dict[str, str], clock: Clock, fields: Fields) -> Tuple[List[str], List[Line], str]:
     """The names of a table's fields, its packets, and what has to be told of their times."""
     names, values = table_of(said["table"])
-    if fields.fields and list(fields.fields) != names:
+    if {"fields", "bits"} <= set(said) and list(fields.fields) != names:
         raise ToolError(f"the fields of {said['fields']} are not those of {said['table']}")
     rows = rows_of(said["report"], number_of(said, "apid", 0, IDLE - 1))
-    numbers = list(written(said["report"], rows))
-    if len(numbers) != len(values):
+    restored = list(written(said["report"], rows))
+    count = sum(max(0, one.stop - one.start) for one in restored)
+    if count != len(values):
         which = f" of APID {said['apid']}" if "apid" in said else ""
         more = f": the table has to be that of this APID's packets alone, which restore apid={said['apid']} gives" if "apid" in said else ""
-        raise ToolError(f"{said['table']} has {len(values)} packets, and by {said['report']} {len(numbers)}{which} were restored{more}")
-    return names, clock.lines(names, numbers, values), restarts(said["report"], rows) if "start" in said else ""
+        raise ToolError(f"{said['table']} has {len(values)} packets, and by {said['report']} {count}{which} were restored{more}")
+    return names, clock.lines(names, list(itertools.chain(*restored)), values), restarts(said["report"], rows) if "start" in said else ""
 
 
 def choice_of(said: Dict[str, str], tags: List[str]) -> Tuple[str, Clock]:

@@ -1,5 +1,6 @@
 """Space Packets (CCSDS 133.0-B-2)."""
 
+import errno
 import struct
 from dataclasses import dataclass
 from typing import BinaryIO, Iterator
@@ -50,7 +51,9 @@ def space_packets(source: BinaryIO, apid: int) -> Iterator[SpacePacket]:
 def _read(source: BinaryIO, number: int) -> bytes:
     """So many bytes, or fewer at the end."""
     parts = []
-    while number and (part := source.read(number)):
+    while number and (part := source.read(number)) != b"":
+        if part is None:
+            raise BlockingIOError(errno.EAGAIN, "the source is in non-blocking mode")
         parts.append(part)
         number -= len(part)
     return b"".join(parts)

@@ -6,10 +6,12 @@ import os
 import re
 import shutil
 import sys
-from typing import BinaryIO, Callable, Dict, Iterator, List, Optional, Sequence, Tuple
+from typing import BinaryIO, Callable, Dict, Iterator, List, Optional, Sequence, Tuple, Union
 
 # The status of a tool that has written what it makes, and told something that has to be looked at first.
 LOOK = 3
+# Names of standard output beside `-`.
+STANDARD = ("/dev/stdout", "/dev/fd/1", "/proc/self/fd/1")
 
 Tell = Callable[[str], None]
 
@@ -64,6 +66,9 @@ def number_of(said: Dict[str, str], key: str, least: int, most: int) -> Optional
 def opened(name: str) -> BinaryIO:
     """A file to read, or standard input if its name is `-`."""
     try:
+        if name == "-":
+            # (else what hasn't come yet would be taken as the end)
+            os.set_blocking(0, True)
         return open(0 if name == "-" else name, "rb", closefd=name != "-")
     except (OSError, ValueError) as error:
         raise ToolError(f"{name}: {getattr(error, 'strerror', None) or error}") from error
@@ -83,17 +88,17 @@ def read(source: BinaryIO, size: int) -> bytes:
         raise ToolError(f"{source.name or '-'}: {error.strerror}") from error
 
 
-def is_one(name: str, other: str) -> bool:
-    """Whether two names are those of one file."""
+def is_one(name: str, other: Union[str, int]) -> bool:
+    """Whether a name is that of another one's file, or of one that is open under a number."""
     with contextlib.suppress(OSError):
-        return os.path.samestat(os.fstat(0) if other == "-" else os.stat(other), os.stat(name))
+        return os.path.samestat(os.stat(other), os.stat(name))
     return False
 
 
 class Output:
     """What a tool writes: standard output if its name is `-`, a device or a pipe, or else NAME.part, which takes its name when all is done."""
 
-    def __init__(self, name: str, inputs: Sequence[str], others: Sequence[str]) -> None:
+    def __init__(self, name: str, used: Sequence[Union[str, int]], others: Sequence[str]) -> None:
         self.target = self.part = ""
         if name == "-":
             if sys.stdout is None:
@@ -102,11 +107,12 @@ class Output:
             return
         path = os.path.realpath(name)
         try:
-            if os.path.exists(path) and not os.path.isfile(path):
-                self.file = open(path, "wb")
+            # (a pipe by a name of /dev/fd has no path)
+            if os.path.exists(name) and not os.path.isfile(name):
+                self.file = open(name, "wb")
                 return
             for own in (path, path + ".part"):
-                if any(is_one(own, other) for other in inputs) or own in others:
+                if any(is_one(own, other) for other in used) or own in others:
                     raise ToolError(f"{name}: {own} is read or written under another name")
             if os.path.islink(name) and not os.path.exists(path):
                 raise ToolError(f"{name} is a link to nothing")
@@ -134,14 +140,17 @@ class Output:
 def outputs(tool: str, said: Dict[str, str], inputs: Sequence[str]) -> Iterator[Tuple[BinaryIO, Tell]]:
     """Where a tool that reads these inputs writes, by `out=`, and what tells a line, by `report=`: standard output and standard error if they
     aren't named."""
-    names = [said.get("out", "-"), *([said["report"]] if "report" in said else [])]
+    said_ones = [said.get("out", "-"), *([said["report"]] if "report" in said else [])]
+    names = ["-" if name in STANDARD else name for name in said_ones]
     if names == ["-", "-"]:
         raise ToolError("standard output is one output")
     if inputs.count("-") > 1:
         raise ToolError("standard input is one file")
+    used: List[Union[str, int]] = [1] if "-" in names else []
+    used.extend(0 if name == "-" else name for name in inputs)
     made: List[Output] = []
     for name in names:
-        made.append(Output(name, inputs, [path for one in made if one.part for path in (one.target, one.part)]))
+        made.append(Output(name, used, [path for one in made if one.part for path in (one.target, one.part)]))
 
     def tell(text: str) -> None:
         if len(made) > 1:
@@ -151,9 +160,15 @@ def outputs(tool: str, said: Dict[str, str], inputs: Sequence[str]) -> Iterator[
                 print(f"pocket {tool}: {text}", file=sys.stderr, flush=True)
 
     try:
-        yield made[0].file, tell
+        try:
+            yield made[0].file, tell
+        finally:
+            for one in made:
+                one.finish()
+        for one in made:
+            one.take_name()
     finally:
         for one in made:
-            one.finish()
-    for one in made:
-        one.take_name()
+            # (what could not be written was told, or is told now)
+            with contextlib.suppress(OSError):
+                one.file.close()
