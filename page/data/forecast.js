@@ -1,6 +1,6 @@
 // What a forecast says of a packet, in words.
 
-import { records_of } from './records.js';
+import { cells_in, records_of } from './records.js';
 import { GONE, SURE } from './runs.js';
 import { grouped, range_words } from './text.js';
 
@@ -28,10 +28,10 @@ export function sure_words(runs) {
 // The row of a script that drops a packet, and its number: the last row that names it decides. Null if none does.
 function dropping_row(script, at) {
   const rows = records_of(script), row = rows.findLastIndex(({ text }) => {
-    const [, first, last, step] = text.split(',').map(Number);
+    const [, first, last, step] = cells_in(text).map(Number);
     return at >= first && at <= last && (at - first) % step === 0;
   });
-  return rows[row]?.text.startsWith('drop') ? { number: row + 1, text: rows[row].text } : null;
+  return row >= 0 && cells_in(rows[row].text)[0] === 'drop' ? { number: row + 1, text: rows[row].text } : null;
 }
 
 export function forecast_words(runs, script, at) {

@@ -20,9 +20,10 @@ function find_records(text) {
   return records;
 }
 
-export const fields_of = (text) => records_of(text).map((record) => record.text.split(','));
+// The cells of a record's text, without the quotes that may stand round each.
+export const cells_in = (text) => text.split(',').map((cell) => cell.replace(/^"(.*)"$/, '$1'));
 
-export const stream_rows = (text) => fields_of(text).map((cells) => cells.map((cell) => cell.replace(/^"(.*)"$/, '$1')));
+export const fields_of = (text) => records_of(text).map((record) => cells_in(record.text));
 
 export function with_rows(text, rows) {
   const gap = rows.length && text && !/[\r\n]$/.test(text) ? '\n' : '';

@@ -2,7 +2,7 @@
 
 import { WRITTEN } from './runs.js';
 import { fields_of } from './records.js';
-import { Reader, last_place } from './text.js';
+import { Reader, last_place, text_of } from './text.js';
 
 export const [WITHIN, BELOW, ABOVE] = [0, 1, 2];
 
@@ -17,16 +17,27 @@ export function read_table(bytes) {
     reader.number();
     for (const field of fields) {
       reader.at += 1;
-      const value = field.values[t] = reader.signed();
+      const start = reader.at, value = field.values[t] = reader.signed();
       if (value < field.low || t === 0) field.low = value;
       if (value > field.high || t === 0) field.high = value;
+      if (!Number.isSafeInteger(value)) take_large(field.large, BigInt(text_of(bytes.subarray(start, reader.at))));
     }
     reader.at += 1;
   }
+  for (const field of fields) field.words = range_of(field);
   return { bytes, count, fields, line };
 }
 
-const new_field = (name, count) => ({ name, values: new Float64Array(count), out: new Uint8Array(count), outside: 0, limit: null, low: 0, high: 0 });
+// Takes a value beyond 2^53 into the exact least and greatest one of these.
+function take_large(large, value) {
+  if (!(large.low <= value)) large.low = value;
+  if (!(large.high >= value)) large.high = value;
+}
+
+// The range of a field in words: an end beyond 2^53 is that of the values there.
+const range_of = ({ low, high, large }) => `${Number.isSafeInteger(low) ? low : large.low} to ${Number.isSafeInteger(high) ? high : large.high}`;
+
+const new_field = (name, count) => ({ name, values: new Float64Array(count), out: new Uint8Array(count), outside: 0, limit: null, low: 0, high: 0, large: {}, words: '' });
 
 // Marks in the table what its report lists out of the limits; gives which packets have such a value. Values are compared exactly.
 export function mark_outside(table, bytes) {
@@ -75,7 +86,7 @@ export class Places {
 
   // The place of a packet in the recording, or -1.
   of(number) {
-    return this.runs.kind_at(number) === WRITTEN ? this.written_before(number) : -1;
+    return number < this.runs.total && this.runs.kind_at(number) === WRITTEN ? this.written_before(number) : -1;
   }
 
   number_of(place) {

@@ -22,10 +22,12 @@ export class Reader {
     return byte >= 48 && byte <= 57;
   }
 
+  // A whole number; above 2^53 the nearest one that there is.
   number() {
+    const start = this.at;
     let number = 0;
     for (let byte = this.bytes[this.at]; byte >= 48 && byte <= 57; byte = this.bytes[++this.at]) number = number * 10 + byte - 48;
-    return number;
+    return Number.isSafeInteger(number) ? number : Number(text_of(this.bytes.subarray(start, this.at)));
   }
 
   // A number that may be below zero.

@@ -51,24 +51,46 @@ test('fields', async () => {
   check('another report', part('fields-refusal').textContent, /^The report is of another recording/);
 });
 
+const unread = Object.assign(new File(['x'], 'a folder'), {
+  slice() {
+    throw new Error('it is no file');
+  },
+});
+
 // A recording, its report and its fields, dropped together or one by one, are known by what they hold.
 test('files that are dropped', async () => {
   const [recording, report] = await example(), view = views.fields;
   part('fields-bits').value = '64';
-  await view.take([new File([EXAMPLE_FIELDS], 'fields.csv'), new File([report], 'report.csv'), new File([recording], 'restored.rec')]);
-  check('all three', sum(), '166 packets with 5 fields; 106 values are out of limits; 14 packets are missing.');
+  for (const [name, text] of [['all three, of which one has quotes', EXAMPLE_FIELDS.replace(/[^,\n]+/g, '"$&"')], ['all three', EXAMPLE_FIELDS]]) {
+    await view.take([new File([text], 'fields.csv'), new File([report], 'report.csv'), new File([recording], 'restored.rec')]);
+    check(name, sum(), '166 packets with 5 fields; 106 values are out of limits; 14 packets are missing.');
+    check(`a stretch of ${name}`, rows('fields-stretches').includes('battery_mV 44 55 3320, above 3300'), true);
+  }
   await view.take([new File([recording], 'restored.rec')]);
   check('the mark of the example\'s limits', part('fields-example-mark').hidden, false);
   check('the recording alone', sum(), '166 packets with 5 fields; 106 values are out of limits.');
   await view.take([new File([report], 'report.csv')]);
   check('its report after it', `${view.runs.total} ${view.table.count}`, '180 166');
+  await view.take([unread]);
+  check('what can\'t be read', part('fields-refusal').textContent, 'the file a folder can\'t be read: it is no file');
+  check('what is kept', part('recording-name').textContent, /^restored\.rec: .*, with its report\.$/);
+  await view.run();
+  check('the report stays', `${view.runs?.total} ${view.table?.count}`, '180 166');
   await view.take([new File(['x'], 'x.csv')], 'report');
   check('no report', part('fields-refusal').textContent, /^This is no report/);
   check('the recording stays', part('recording-name').textContent, /^restored\.rec:/);
   await after(view, () => part('drop-report').click());
   await view.take([new File([recording], 'slow.rec')]);
+  part('fields-bits').value = '57';
   await view.take([new File([new Uint8Array(320e6)], 'zeros')]);
   check('too many values', part('fields-refusal').textContent, /^the recording has 200,000,000 values, more than this page draws \(20,000,000\): th/);
+});
+
+test('an empty recording', async () => {
+  views.fields.rows.text = 'field,0,8,u,value\n';
+  await open('nothing', new Uint8Array(0), '8');
+  check('the sum', sum(), '0 packets with 1 field; no limits are given.');
+  check('a value', views.fields.value_words(views.fields.table.fields[0], 0), 'value is not there');
 });
 
 test('a million values', async () => {
@@ -81,6 +103,15 @@ test('a million values', async () => {
   check('what is seen of the one value', columns.filter((one) => one.is_above && one.high === 200).length, 1);
   press('fields-strip', 'Home', 'n');
   check('the value', `${says('fields-strip')}: ${values()}`, 'packet 777,777: value 200 0 to 100 above');
+});
+
+test('values of 64 bits', async () => {
+  const recording = new Uint8Array(16).fill(255);
+  recording[7] = 254;
+  views.fields.rows.text = 'field,0,64,u,large\nfield,0,8,u,small\n';
+  await open('64 bits', recording, '64');
+  const ranges = Array.from(document.querySelectorAll('.curve-head b'), (name) => `${name.textContent} ${name.nextSibling.textContent}`);
+  check('the ranges', ranges.join('; '), 'large 18446744073709551614 to 18446744073709551615; small 255 to 255');
 });
 
 // Of many fields those are drawn that are out of limits, and others if they are searched and chosen.
@@ -96,6 +127,10 @@ test('fields that are chosen', async () => {
   part('choose-out').click();
   check('those out of limits', drawn(), 'f9');
   type('fields-search', '');
+  await open('twelve fields', new Uint8Array(60), '0');
+  check('after a refusal', part('fields-list').textContent + part('fields-found').textContent, '');
+  await open('twelve fields', new Uint8Array(60), '48');
+  check('those that are still chosen', drawn(), 'f9');
   views.fields.chooser.chosen.clear();
 });
 
@@ -111,10 +146,21 @@ test('units and times', async () => {
   const axis = (texts) => Object.entries(texts).forEach(([name, text]) => type(`time-${name}`, text));
   axis({ kind: 'step', start: '2026-03-01T00:00:00', step: '60' });
   check('a time', texts_of('#fields-words .state').join(), 'Packet 52, 2026-03-01 00:52:00, at place 50 of the recording.');
+  const refused = () => ['start', 'step'].map((name) => part(`time-${name}-refusal`).textContent).join('|'), wrong_step = 'A number, as 0.5. Until then the axis has the packets\' numbers.';
+  axis({ step: '0,5' });
+  check('a wrong step', `${refused()} ${texts_of('#fields-words .state').join()}`, `|${wrong_step} Packet 52, at place 50 of the recording.`);
+  axis({ step: '' });
+  check('no step', refused(), `|${wrong_step}`);
+  axis({ step: '0.5', start: 'noon' });
+  check('a wrong start', `${refused()} ${part('time-start').getAttribute('aria-invalid')}`, 'A day and a time, as 2026-03-01T00:00:00. Until then times are counted from 0.| true');
   axis({ start: '', kind: 'field', field: 'mode' });
+  check('what is right', `${refused()} ${part('time-step-refusal').hidden}`, '| true');
   check('a time of a field', texts_of('#fields-words .state').join(), 'Packet 52, 0:00:01, at place 50 of the recording.');
   type('time-kind', 'number');
   check('ticks', ticks_between(-14, 42, 4).join(' '), '0 20 40');
+  check('ticks nearer than two numbers of 64 bits', ticks_between(2 ** 63, 2 ** 63 + 2048, 5).length, 1);
   check('a clock', time_words(3725.5, null), '1:02:05.500');
+  check('a hundred steps', `${time_words(100 * 4.35, null)}, ${time_words(100 * 4.35, 0)}`, '0:07:15, 1970-01-01 00:07:15');
+  check('less than a millisecond', `${time_words(-0.0004, null)} ${time_words(-59.9996, null)}`, '0:00:00 −0:01:00');
   check('an offset', value_words(read_units('t,C,0.5,-10').units.get('t'), '30'), '5 C (30)');
 });

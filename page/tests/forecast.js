@@ -1,6 +1,6 @@
 // Tests of the forecast, before a pass.
 
-import { after, check, point, press, put, says, shown, test, type, until, wait } from './tools.js';
+import { after, check, point, press, put, says, shown, test, texts_of, type, until } from './tools.js';
 import { address_of, remembered } from '../views/address.js';
 import { part } from '../views/parts.js';
 import { strip_parts } from '../views/strip.js';
@@ -51,12 +51,27 @@ test('keys on the strip', async () => {
   await shown(views.forecast);
 });
 
-// A drag that lasts so many milliseconds.
-async function drag(from, to, milliseconds, more) {
-  point('forecast-strip', 'pointerdown', from, more);
-  point('forecast-strip', 'pointermove', to, more);
-  if (milliseconds) await wait(milliseconds);
-  point('forecast-strip', 'pointerup', to, more);
+// What is typed after a change is taken back before it, at once.
+test('what is typed after a change', async () => {
+  await put(EXAMPLE);
+  press('forecast-strip', '0', 'Home', 'l', 'l');
+  const with_row = losses(), texts = [];
+  for (const last of [60, 61, 62]) type('script', `${with_row}drop,60,${last},1\n`);
+  press('forecast-strip', 'l', 'l');
+  for (let turn = 0; turn < 3; turn += 1) {
+    press('forecast-strip', 'z');
+    texts.push(losses().slice(EXAMPLE.script.length));
+  }
+  check('what is taken back', texts.join('|'), 'drop,0,0,1\ndrop,60,62,1\n|drop,0,0,1\n|');
+  await shown(views.forecast);
+});
+
+// A drag that lasts so many milliseconds by the times of its events, however long the machine takes.
+function drag(from, to, milliseconds, more) {
+  for (const [kind, share, timeStamp] of [['pointerdown', from, 1000], ['pointermove', to, 1000], ['pointerup', to, 1000 + milliseconds]]) {
+    document.addEventListener(kind, (event) => Object.defineProperty(event, 'timeStamp', { value: timeStamp }), { capture: true, once: true });
+    point('forecast-strip', kind, share, more);
+  }
 }
 
 // A pointer looks at a packet and leaves it again; a drag makes a loss, or with Shift a row of whole content, if it is meant.
@@ -69,13 +84,13 @@ test('a pointer on the strip', async () => {
   check('under the pointer', says('forecast-strip'), /^packet 195 is open/);
   point('forecast-strip', 'pointerleave', at(195));
   check('after it left', says('forecast-strip'), /^packet 0 is sure/);
-  await drag(at(100), at(110), 0, {});
-  await drag(at(100), at(101), 300, {});
-  await drag(at(100), at(120), 300, { pointerType: 'touch' });
+  drag(at(100), at(110), 149, {});
+  drag(at(100), at(101), 150, {});
+  drag(at(100), at(120), 150, { pointerType: 'touch' });
   check('what slips add', part('script').value, EXAMPLE.script);
   press('forecast-strip', '0', 'Home', '+', '+');
-  await drag(at(170), at(185), 300, {});
-  await drag(at(170), at(185), 300, { shiftKey: true });
+  drag(at(170), at(185), 150, {});
+  drag(at(170), at(185), 150, { shiftKey: true });
   delete part('forecast-strip').setPointerCapture;
   check('the loss', part('script').value, `${EXAMPLE.script}drop,170,185,1\n`);
   check('the whole ones', part('plan').value, `${EXAMPLE.plan}170,185,1,fr\n`);
@@ -88,6 +103,13 @@ test('a packet that is open for its mask', async () => {
   views.forecast.span.go(7);
   const why = 'The latest sure packet before it is 5; after that packet 6 builds on a mask that is not sure';
   check('packet 7', says('forecast-strip'), `packet 7 is open: it arrives, and the values sent decide whether it is restored. ${why}`);
+});
+
+// The last row that names a packet decides, within quotes too.
+test('a loss within quotes', async () => {
+  await put({ packets: '10', robust: '0', plan: '', script: 'drop,0,9,3\n"drop","3","3","1"\n' });
+  views.forecast.span.go(3);
+  check('packet 3', says('forecast-strip'), 'packet 3 is lost: no copy of it arrives (row 2 of the losses, "drop","3","3","1")');
 });
 
 test('why a packet is open', async () => {
@@ -122,6 +144,25 @@ test('what makes all sure', async () => {
   await until(() => take.textContent === 'taken');
   check('the focus', document.activeElement === take, true);
   check('its name', take.getAttribute('aria-label'), 'Take robust 5');
+});
+
+// Advice that is refused, or that fails, is told, and no number of the advice before it stays.
+test('no advice', async () => {
+  await put(EXAMPLE);
+  const { advice } = views.forecast, { desk: own } = advice, told = () => part('rows-told').textContent + texts_of('#robust-rows .number').join('');
+  await until(() => !advice.asking.timer && told().includes('These 3 rows make all sure'));
+  const answers = { refused: async () => null, failed: () => Promise.reject(new Error('it ended')) }, found = [];
+  for (const ask of Object.values(answers)) {
+    own.ask = ask;
+    await advice.ask();
+    found.push(part('robust-told').textContent + told());
+  }
+  delete own.ask;
+  check('what is told', found.join(' '), 'No advice: the program refuses what was to be tried. No advice: it ended.');
+  advice.ask();
+  check('at the start', part('robust-told').textContent + told(), 'Trying 0 to 7 ..');
+  await until(() => told().includes('These 3 rows make all sure'));
+  check('the numbers', told(), /984none/);
 });
 
 const REFUSED = [

@@ -5,6 +5,7 @@ import './cases.js';
 import './forecast.js';
 import './store.js';
 import './fields.js';
+import './worker.js';
 import './random.js';
 import '../views/start.js';
 import { element, fill } from '../views/parts.js';

@@ -125,6 +125,9 @@ test('all APIDs of a store', async () => {
   input('301').value = '0';
   await view.run();
   check('wrong bits', `${input('301').getAttribute('aria-invalid')} ${told().length}`, 'true 0');
+  input('301').value = '';
+  await view.run();
+  check('no bits', `${input('301').getAttribute('aria-invalid')} ${told().length}`, 'false 1');
   input('301').value = '64';
   await view.run();
   check('the sums', told().join('|'), 'APID 300: 48 of 50 packets restored; 48 arrived, 2 lost. Open APID 300|APID 301: 60 of 60 packets restored; 60 arrived. Open APID 301');
@@ -138,10 +141,51 @@ test('all APIDs of a store', async () => {
   check('the most lost', part('streams-sum').textContent, '108 packets of 2 APIDs restored; 2 lost, most of them of APID 300 (2).');
   await view.take([new File([new Uint8Array(9000000)], 'zeros')]);
   check('zeros', part('streams-refusal').textContent, /^This is no store: it begins with a thousand packets/);
+  await view.take([new File([], 'empty')]);
+  check('an empty store', part('streams-sum').textContent, 'No packet is in this store.');
   await view.take([new File([store], 'two again')]);
   check('the bits that are remembered', `${input('300').value} ${told().length}`, '64 2');
   await after(views.store, () => part('streams-strips').querySelector('button').click());
   check('the one that is opened', `${part('store-apid').value} ${sum()}`, '300 48 of 50 packets restored; 48 arrived.');
+});
+
+// An opened text may have bits of APIDs that are not in the store: they stay, and they count.
+test('bits of APIDs that are not there', async () => {
+  const view = views.streams, store = await store_of(recording_of(50), 300), told = () => texts_of('#streams-strips .sum').map((it) => it.split(':')[0]).join();
+  const open_bits = (text) => view.take_text(new File([text], 'bits.csv'));
+  show_view('streams');
+  kept_bits.clear();
+  await view.take([new File([store], 'one')]);
+  await open_bits('300,72\n7,8\n');
+  view.inputs.get('300').value = '64';
+  await view.run();
+  check('the bits', view.text(), '300,64\n7,8\n');
+  check('the strips', told(), 'APID 300,APID 7');
+  await open_bits(Array.from({ length: 64 }, (_, apid) => `${apid},8\n`).join(''));
+  check('all that a run takes', `${part('streams-refusal').hidden} ${view.inputs.get('300').value}`, 'true ');
+  view.inputs.get('300').value = '64';
+  await view.run();
+  check('one more', part('streams-refusal').textContent, /^With the APIDs of the opened text that are not listed these are too many: .* side row 65 is wrong\.$/);
+});
+
+// A text of bits that comes while another store is read is refused with that store: its name stands there, and no strip of the store before.
+test('bits that come while a store is read', async () => {
+  const view = views.streams, shown_now = () => `${part('streams-name').textContent} ${texts_of('#streams-strips .sum').length} ${part('streams-sum').textContent}`;
+  const good = await store_of(recording_of(50), 300), cut = new File([good.slice(0, good.length - 3)], 'a cut one');
+  show_view('streams');
+  kept_bits.clear();
+  await view.take([new File([good], 'a whole one')]);
+  view.take([cut]);
+  await view.take_text(new File(['300,64\n'], 'bits.csv'));
+  check('a cut store', shown_now(), 'a cut one: 1 APID. 0 No picture, until what is refused is mended.');
+  check('its refusal', part('streams-refusal').textContent, /^This store is refused: the store ends inside the packet/);
+  view.take([new File([good], 'another one')]);
+  await view.take_text(new File(['300,64\nx,1\n'], 'bits.csv'));
+  check('a wrong text', `${shown_now()} ${view.inputs.get('300').value}`, 'another one: 1 APID. 0 No picture, until what is refused is mended. ');
+  check('its row', part('streams-refusal').textContent, /^Row 2 of bits\.csv is no APID/);
+  Object.assign(view.inputs.get('300'), { value: '64' });
+  await view.run();
+  check('after that', texts_of('#streams-strips .sum').join(), 'APID 300: 50 of 50 packets restored; 50 arrived. Open APID 300');
 });
 
 // With other bits than the sender's nearly all is wrong and unsynced, and the page says so. Neighbours in the report are one row.
@@ -153,11 +197,48 @@ test('other bits than the sender\'s', async () => {
   check('the last row', part('store-report').querySelector('.end').textContent, /^end400 arrived/);
 });
 
+// Bits that are remembered are found again, by another file and by its APID, though those of the store before were not known.
+test('after a store of unknown bits', async () => {
+  const known = await store_of(recording_of(20), 302), unknown = new File([await store_of(recording_of(20), 303)], 'unknown');
+  kept_bits.clear();
+  await open('known', known, '64', '302');
+  const told = () => `${part('store-apid').value} ${part('store-bits').value} ${sum()}`, wanted = '302 64 20 of 20 packets restored; 20 arrived.';
+  await views.store.take([unknown]);
+  check('its bits', told(), '303  No picture, until what is refused is mended.');
+  await views.store.take([new File([known], 'known again')]);
+  check('another file', told(), wanted);
+  await views.store.take([new File([known, await unknown.arrayBuffer(), await unknown.arrayBuffer()], 'both')]);
+  check('unknown again', told(), '303  No picture, until what is refused is mended.');
+  await after(views.store, () => type('store-apid', '302'));
+  check('another APID', told(), wanted);
+});
+
+// A report of 99 rows has forty at first; paper, which has no button for the others, says how many they are.
+test('a report of many rows', async () => {
+  await open('many rows', await store_of(recording_of(400), 100, 'drop,3,395,4\n'));
+  const left = () => part('store-report').querySelector('.on-paper').textContent, more = part('store-report').querySelector('[aria-label^=More]');
+  check('what paper leaves out', left(), '59 rows more, which this paper leaves out.');
+  more.click();
+  check('after forty more', left(), '19 rows more, which this paper leaves out.');
+  more.click();
+  check('with all rows', `${left()}${more.hidden}`, 'true');
+});
+
 // A store may begin with many packets of another APID that have secondary headers; their counts tell it from bytes that are no store.
 test('a store that begins with other packets', async () => {
   const front = Array.from({ length: 1500 }, (_, number) => [0x08, 5, 0xc0 | (number >> 8), number & 255, 0, 0, 0]);
   await open('a store behind others', Uint8Array.of(...front.flat(), ...await store_of(recording_of(50), 100)));
   check('what is restored', sum(), '50 of 50 packets restored; 50 arrived.');
+});
+
+// Idle packets are no stream, and no choice.
+test('a store with idle packets', async () => {
+  const idle = Array.from({ length: 80 }, (_, number) => [0x07, 0xff, 0xc0, number, 0, 1, 0, 0]), store = Uint8Array.of(...idle.flat(), ...await store_of(recording_of(50), 100));
+  await open('a store with idle packets', store, '64', null);
+  check('the APID that is chosen', `${part('store-apid').value} ${sum()}`, '100 50 of 50 packets restored; 50 arrived.');
+  show_view('streams');
+  await views.streams.take([new File([store], 'a store with idle packets')]);
+  check('the APIDs', [...views.streams.inputs.keys()].join(' '), '100');
 });
 
 // Two in a hundred packets have two hundredths of the height, and any packet some of it.
@@ -185,6 +266,20 @@ test('a late wrong bit', async () => {
   const is_seen = place.top >= box.top && place.bottom <= box.bottom && place.left >= box.left && place.right <= box.right;
   check('the bit is late', views.store.shown.runs.value[0] > 4000, true);
   check('it is seen', is_seen, true);
+});
+
+// If the first file that is read is given up, what was typed stays.
+for (const [name, id] of [['store', 'store-bits'], ['fields', 'fields-bits']]) test(`a first file that is given up, ${name}`, async () => {
+  const view = views[name], { judged, asked } = view, slow = Object.assign(new File(['x'], 'slow'), { slice: () => ({ arrayBuffer: () => new Promise(() => {}) }) });
+  Object.assign(view, { judged: null, asked: null });
+  const read = view.take([slow]);
+  type(id, '72');
+  part(`${name}-busy`).querySelector('button').click();
+  await read;
+  view.asking.stop();
+  check('what was typed', part(id).value, '72');
+  Object.assign(view, { judged, asked });
+  view.put_back();
 });
 
 // A worker that can't be started is told where the example would be.

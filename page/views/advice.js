@@ -30,20 +30,31 @@ export class Advice {
     this.asking.stop();
     this.desk.drop();
     part('advice').hidden = true;
+    this.tell('');
+  }
+
+  // Says this alone: of what was tried before nothing stays.
+  tell(words) {
+    fill(part('robust-told'), words);
     refill(part('rows-told'));
-    fill(part('robust-told'));
+    for (const { children: [, share, sure, open] } of this.rows) {
+      share.querySelector('.filled').style.width = '0';
+      fill(sure);
+      fill(open);
+    }
   }
 
   async ask() {
     const { asked } = this, tried = [];
     this.shown = asked;
     for (const id of ['advice', 'advice-first']) part(id).classList.remove('old');
-    fill(part('robust-told'), 'Trying 0 to 7 ..');
+    this.tell('Trying 0 to 7 ..');
     try {
       const answer = await this.desk.ask('advice', { asked }, [], ({ robust, ...rows }) => (robust ? this.tell_robust(robust, tried) : this.tell_rows(rows, false)));
       if (answer) this.tell_rows(answer, true);
+      else if (asked === this.asked && !part('advice').hidden) this.tell('No advice: the program refuses what was to be tried.');
     } catch (fault) {
-      fill(part('robust-told'), `No advice: ${fault.message}.`);
+      this.tell(`No advice: ${fault.message}.`);
     }
   }
 

@@ -15,10 +15,10 @@ export class Chooser {
     }
   }
 
-  // The fields of another table. Those that were chosen stay chosen by their names.
+  // The fields of another table, or none. Those that were chosen stay chosen by their names.
   show(fields) {
     this.fields = [...fields].sort((one, other) => other.outside - one.outside);
-    if (!fields.some((field) => this.chosen.has(field.name))) this.chosen = new Set(this.fields.slice(0, AT_FIRST).map((field) => field.name));
+    if (fields.length && !fields.some((field) => this.chosen.has(field.name))) this.chosen = new Set(this.fields.slice(0, AT_FIRST).map((field) => field.name));
     this.list();
   }
 

@@ -16,7 +16,7 @@ export class Curve extends Picture {
     super(element('canvas', { class: 'curve', role: 'slider', tabindex: '0', 'aria-label': `The field ${field.name}`, 'aria-describedby': 'fields-keys' }), view.span, height, { leap: (way) => view.leap(way) });
     Object.assign(this, { view, field, key: '', columns: [], is_near: true, top: MARGIN, bottom: height - MARGIN, now: element('span', { class: 'now' }) });
     const out = field.outside ? [element('span', { class: 'out' }, `${grouped(field.outside)} out`)] : [];
-    this.box = element('div', {}, element('div', { class: 'curve-head' }, element('b', {}, field.name), element('span', {}, `${field.low} to ${field.high}`),
+    this.box = element('div', {}, element('div', { class: 'curve-head' }, element('b', {}, field.name), element('span', {}, field.words),
       element('span', {}, field.limit ? `limits ${field.limit.words}` : 'no limits'), ...out, this.now), this.canvas);
     this.sight = new IntersectionObserver(([seen]) => {
       this.is_near = seen.isIntersecting;

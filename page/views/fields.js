@@ -58,7 +58,7 @@ export class FieldsView extends View {
   }
 
   async run() {
-    if (this.asked) await this.judge(this.asked.files, this.asked.given.roles);
+    if (this.asked?.files.length) await this.judge(this.asked.files, this.asked.given.roles);
   }
 
   judge(files, roles) {
@@ -66,17 +66,24 @@ export class FieldsView extends View {
   }
 
   put_back() {
-    const { bits = '', fields = '' } = this.judged ?? {};
+    if (!this.judged) return;
+    const { bits = '', fields = '' } = this.judged;
     part('fields-bits').value = bits;
     this.rows.text = fields;
   }
 
-  // Shows a table, or its refusal. Of the files the recording and its report are kept.
-  show(judged) {
-    const { status, text, files, given: { roles }, recording = 0, report = -1 } = judged, fault = this.refuse(judged, judged.bits);
-    const count = files.filter((_, place) => !roles[place]).length, [file, report_file] = [files[recording], files[report]];
+  // Of the files the recording and its report are kept; a fault doesn't tell which they are, and leaves those of before. Gives how many came.
+  keep_files(judged, before) {
+    const { files, given: { roles }, recording = 0, report = -1 } = judged, is_fault = judged.recording === undefined && before?.files.length > 0;
+    const [file, report_file] = is_fault ? [before.file, before.report_file] : [files[recording], files[report]];
     Object.assign(judged, { file, report_file, files: [file, report_file].filter(Boolean) });
     judged.given = { ...judged.given, roles: file ? ['recording', 'kept'] : ['report'] };
+    return is_fault ? 0 : files.filter((_, place) => !roles[place]).length;
+  }
+
+  // Shows a table, or its refusal.
+  show(judged, before) {
+    const { status, text } = judged, fault = this.refuse(judged, judged.bits), count = this.keep_files(judged, before), { file, report_file } = judged;
     if (!this.asking.timer) this.put_back();
     this.sum();
     tell('fields-refusal', status === 2 || status === 3 ? '' : fault);
@@ -86,7 +93,10 @@ export class FieldsView extends View {
       this.axis.show(this.table.fields);
       this.strip.axis_words = this.axis.words(this);
       this.strip.show(this.runs);
-    } else this.strip.clear(status === 0 ? 'no recording yet' : status === 2 ? 'a number is refused' : text);
+    } else {
+      this.chooser.show([]);
+      this.strip.clear(status === 0 ? 'no recording yet' : status === 2 ? 'a number is refused' : text);
+    }
     this.draw_curves();
     tell('recording-name', file ? `${name_of(file, count)}: ${counted(file.size, 'byte', 'bytes')}${report_file ? ', with its report' : ''}.` : '');
     part('drop-report').hidden = !report_file;

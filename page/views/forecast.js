@@ -24,10 +24,10 @@ const are_same = (texts, others) => Object.keys(EXAMPLE).every((name) => texts[n
 export class ForecastView extends View {
   constructor() {
     super('forecast');
-    Object.assign(this, { span: new Span(), before: [], is_new: true, why_desk: new Desk(), pending: null });
+    Object.assign(this, { span: new Span(), before: [], latest: null, is_changed: false, is_new: true, why_desk: new Desk(), pending: null });
     this.explaining = new Later(() => this.explain(), 160);
-    this.plan = new Rows('plan', 'schedule', () => this.typed());
-    this.script = new Rows('script', 'script', () => this.typed());
+    this.plan = new Rows('plan', 'schedule', () => this.type());
+    this.script = new Rows('script', 'script', () => this.type());
     this.advice = new Advice((asked, robust) => this.change(() => Object.assign(part('robust'), { value: robust }), asked), (asked, rows) => this.add_rows(rows, asked));
     this.strip = new Strip(part('forecast-strip'), this.span, {
       key: (event) => this.key(event),
@@ -40,7 +40,7 @@ export class ForecastView extends View {
   }
 
   listen() {
-    for (const id of ['packets', 'robust']) part(id).addEventListener('input', () => this.typed());
+    for (const id of ['packets', 'robust']) part(id).addEventListener('input', () => this.type());
     const acts = {
       undo: () => this.undo(),
       anew: () => this.change(() => this.put(EXAMPLE)),
@@ -79,7 +79,15 @@ export class ForecastView extends View {
     this.before.push(texts);
     make();
     this.typed();
+    this.is_changed = true;
     return true;
+  }
+
+  // What is typed after a change is one of its own: taken back alone, and first.
+  type() {
+    if (this.is_changed) this.before.push(this.latest);
+    this.is_changed = false;
+    this.typed();
   }
 
   add_rows(rows, asked) {
@@ -89,6 +97,7 @@ export class ForecastView extends View {
   undo() {
     if (!this.before.length) return;
     this.put(this.before.pop());
+    this.is_changed = true;
     this.tell_change('The latest change is taken back.');
   }
 
@@ -134,7 +143,7 @@ export class ForecastView extends View {
 
   // Asks for the forecast of the texts; while one is under way the latest texts wait, so that a picture comes for some of them at least.
   typed() {
-    const asked = this.texts();
+    const asked = this.latest = this.texts();
     part('undo').disabled = this.before.length === 0;
     part('forecast-example').hidden = !are_same(asked, EXAMPLE);
     if (asked.plan) fill(part('forecast-missing'));

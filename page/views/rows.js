@@ -3,7 +3,7 @@
 import { page_unit } from './paint.js';
 import { button, element, fill, part, refuse_value, save, take_choice, take_drops } from './parts.js';
 import { WHY_ROW } from './why_row.js';
-import { records_of, with_rows } from '../data/records.js';
+import { cells_in, records_of, with_rows } from '../data/records.js';
 import { grouped } from '../data/text.js';
 
 const line_height = () => 20 * page_unit();
@@ -108,7 +108,7 @@ export class Rows {
   refuse(told) {
     const found = / row ([0-9]+) is wrong/.exec(told), { text } = this;
     this.wrong = found && text ? records_of(text)[Number(found[1]) - 1] || null : null;
-    const why = this.wrong ? WHY_ROW[this.kind](this.wrong.text.split(',')) : '';
+    const why = this.wrong ? WHY_ROW[this.kind](cells_in(this.wrong.text)) : '';
     const line = this.wrong ? `Line ${this.wrong.first + 1}, ${JSON.stringify(this.wrong.text.slice(0, 60))}, is not ${KINDS[this.kind].row}: ${why}. ` : '';
     refuse_value(this.area, ...(told ? [line, element('span', { class: 'program' }, `The program says: ${told}.`)] : []));
     if (this.wrong && document.activeElement !== this.area) this.show_line(this.wrong.first);

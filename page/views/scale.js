@@ -30,21 +30,22 @@ export function value_words(unit, cell) {
 export function ticks_between(low, high, most, least_step = 0) {
   const least = Math.max(least_step, ((high - low) / most) * (1 - 1e-9));
   if (!(least > 0)) return [low];
-  const power = 10 ** Math.floor(Math.log10(least)), step = power * [1, 2, 5, 10].find((factor) => power * factor >= least), found = [];
-  for (let tick = Math.ceil(low / step - 1e-9) * step; tick <= high + step * 1e-9; tick += step) found.push(Number(tick.toPrecision(12)));
-  return found;
+  const power = 10 ** Math.floor(Math.log10(least)), step = power * [1, 2, 5, 10].find((factor) => power * factor >= least), found = new Set();
+  const start = Math.ceil(low / step - 1e-9) * step, tick = (place) => start + place * step;
+  for (let place = 0; place < most + 2 && tick(place) <= high + step * 1e-9; place += 1) found.add(Number(tick(place).toPrecision(12)));
+  return [...found];
 }
 
 function clock_words(seconds) {
-  const whole = Math.floor(Math.abs(seconds)), two = (number) => String(number).padStart(2, '0');
-  const rest = Math.abs(seconds) - whole > 1e-6 ? (Math.abs(seconds) - whole).toFixed(3).slice(1) : '';
-  return `${seconds < 0 ? '−' : ''}${Math.floor(whole / 3600)}:${two(Math.floor(whole / 60) % 60)}:${two(whole % 60)}${rest}`;
+  const all = Math.round(1000 * Math.abs(seconds)), whole = Math.floor(all / 1000), two = (number) => String(number).padStart(2, '0');
+  const rest = all % 1000 ? `.${String(all % 1000).padStart(3, '0')}` : '';
+  return `${seconds < 0 && all ? '−' : ''}${Math.floor(whole / 3600)}:${two(Math.floor(whole / 60) % 60)}:${two(whole % 60)}${rest}`;
 }
 
 // What the time axis says: of each packet so many seconds after a start, or since it. `start` is a time in milliseconds or null.
 export function time_words(seconds, start) {
   if (!Number.isFinite(seconds)) return '–';
   if (start === null) return clock_words(seconds);
-  const time = new Date(start + 1000 * seconds);
+  const time = new Date(Math.round(start + 1000 * seconds));
   return Number.isFinite(time.getTime()) ? time.toISOString().replace('T', ' ').replace(/(\.000)?Z$/, '') : '–';
 }

@@ -58,7 +58,7 @@ export class StoreView extends View {
   }
 
   take(files) {
-    return this.open(files, this.value_of('bits', null), this.value_of('apid', null));
+    return this.open(files, this.value_of('bits', null) || null, this.value_of('apid', null) || null);
   }
 
   // Looks at another store, or at the example. Without an APID that with most packets is taken; without bits those that are known of it.
@@ -75,7 +75,8 @@ export class StoreView extends View {
 
   // Puts what was judged into the fields. Bits that gave nothing back count as typed for the next store, too.
   put_back(typed = []) {
-    const { bits, apid, window } = this.judged ?? { window: '64' };
+    if (!this.judged) return;
+    const { bits, apid, window } = this.judged;
     this.typed = new Set(typed);
     for (const [id, value] of Object.entries({ 'store-bits': bits ?? '', 'store-apid': apid ?? '', 'store-window': window })) {
       if (part(id).value !== value) part(id).value = value;
@@ -85,7 +86,7 @@ export class StoreView extends View {
   // Shows what was answered, or the refusal; what is refused leaves no picture. Bits that gave packets back are remembered.
   show(judged, before) {
     const { shown } = this;
-    if (!this.asking.timer) this.put_back(shown?.runs.totals[WRITTEN] ? [] : ['store-bits']);
+    if (!this.asking.timer) this.put_back(shown?.runs.totals[WRITTEN] || !judged.bits ? [] : ['store-bits']);
     this.tell_file(judged);
     this.refuse(judged);
     part('store-report-card').hidden = !shown;

@@ -8,7 +8,7 @@ import { why_store } from './store_words.js';
 import { LOW_STRIP, Strip } from './strip.js';
 import { show_view, views } from './tabs.js';
 import { View, name_of } from './view.js';
-import { stream_rows } from '../data/records.js';
+import { fields_of } from '../data/records.js';
 import { FINDINGS, LOST, Runs } from '../data/runs.js';
 import { counted, grouped } from '../data/text.js';
 
@@ -17,7 +17,7 @@ const lost_of = ({ told }) => told.counts[LOST].packets;
 export class StreamsView extends View {
   constructor() {
     super('streams');
-    Object.assign(this, { inputs: new Map(), strips: [] });
+    Object.assign(this, { inputs: new Map(), others: [], strips: [] });
     this.asking = new Later(() => this.run(), 300);
     take_drops(part('streams-drop'), (files) => this.take(files));
     take_choice(part('streams-file'), (files) => this.take(files));
@@ -31,8 +31,10 @@ export class StreamsView extends View {
     return this.ask({ streams: null, count: files.length, kept: kept_bits }, files.slice(0, 1));
   }
 
+  // The bits in the fields, and after them those of APIDs that have no field here.
   text() {
-    return [...this.inputs].filter(([, input]) => input.value !== '').map(([apid, input]) => `${apid},${input.value}\n`).join('');
+    const given = [...this.inputs].map(([apid, input]) => [apid, input.value]).filter(([, bits]) => bits !== '');
+    return [...given, ...this.others].map((row) => `${row}\n`).join('');
   }
 
   // Takes the bits out of a text of streams, if the program takes it.
@@ -47,7 +49,8 @@ export class StreamsView extends View {
   }
 
   put_back() {
-    const bits = new Map(stream_rows(this.judged?.streams ?? ''));
+    const rows = fields_of(this.judged?.streams ?? ''), bits = new Map(rows);
+    this.others = rows.filter(([apid]) => !this.inputs.has(apid));
     for (const [apid, input] of this.inputs) input.value = bits.get(apid) ?? '';
   }
 
@@ -63,25 +66,26 @@ export class StreamsView extends View {
     tell('streams-name', `${name_of(file, count)}: ${counted(apids.length, 'APID', 'APIDs')}${apids.length > most.length ? `, of which the ${most.length} with most packets are listed` : ''}.`);
   }
 
-  // Shows a strip for each stream, or the refusal. A text of streams that is refused is not kept.
+  // Shows a strip for each stream, or the refusal. A text of streams that is refused is not kept: what is shown of the same store stays.
   show(judged, before) {
-    const { status, text, file_of_text, files: [file] } = judged;
-    if (status && file_of_text && before) this.judged = this.asked = before;
+    const { status, text, file_of_text, files: [file] } = judged, is_same = before?.files[0] === file;
+    if (status && file_of_text && is_same) this.judged = this.asked = before;
     else {
-      if (before?.files[0] !== file || !before.most) this.offer({ apids: [], most: [], ...judged });
-      if (before?.files[0] !== file || file_of_text) this.put_back();
+      if (status && file_of_text) judged.streams = '';
+      if (!is_same || !before.most) this.offer({ apids: [], most: [], ...judged });
+      if (!is_same || !before.most || file_of_text) this.put_back();
       this.draw(judged);
     }
     this.refuse(status, text, file_of_text);
   }
 
-  draw({ status, found: given = [], front, shape: others }) {
-    const found = [...given].sort((one, other) => lost_of(other) - lost_of(one));
+  draw({ status, found: given = [], apids = [], front, shape: others }) {
+    const none = apids.length ? 'Give the bits of an APID\'s packets.' : 'No packet is in this store.', found = [...given].sort((one, other) => lost_of(other) - lost_of(one));
     this.strips.forEach((strip) => strip.end());
     this.strips = [];
     fill(part('streams-strips'), ...found.map((stream) => this.stream_box(stream)));
     for (const { apid, bits, told } of found) if (told.end[1]) remember_bits(apid, front, bits);
-    fill(part('streams-sum'), status ? 'No picture, until what is refused is mended.' : found.length ? this.sum(found, others) : 'Give the bits of an APID\'s packets.');
+    fill(part('streams-sum'), status ? 'No picture, until what is refused is mended.' : found.length ? this.sum(found, others) : none);
     for (const id of ['save-streams-report', 'save-contents']) part(id).disabled = found.length === 0;
   }
 
@@ -109,10 +113,11 @@ export class StreamsView extends View {
 
   // Marks the field whose row is refused, and says what else is.
   refuse(status, text, file) {
-    const row = Number(/ row ([0-9]+) is wrong/.exec(text)?.[1]), given = [...this.inputs.values()].filter((input) => input.value !== '');
-    given.forEach((input, place) => input.setAttribute('aria-invalid', String(!file && place + 1 === row)));
+    const row = Number(/ row ([0-9]+) is wrong/.exec(text)?.[1]), inputs = [...this.inputs.values()], wrong = file ? null : inputs.filter((input) => input.value !== '')[row - 1];
+    for (const input of inputs) input.setAttribute('aria-invalid', String(input === wrong));
     const in_file = row && file ? `Row ${row} of ${file} is no APID with its bits; nothing of it is taken. ` : '';
-    const why = in_file || (row ? 'The bits of a packet are a number from 1 to 49,152, digits alone. ' : why_store(text) && `This store is refused: ${why_store(text)}. `);
+    const in_field = wrong ? 'The bits of a packet are a number from 1 to 49,152, digits alone. ' : row ? 'With the APIDs of the opened text that are not listed these are too many: open a shorter one. ' : '';
+    const why = in_file || in_field || (why_store(text) && `This store is refused: ${why_store(text)}. `);
     tell('streams-refusal', status ? `${why}${status === 5 ? '' : 'The program says: '}${text}.` : '');
   }
 }

@@ -1,6 +1,6 @@
 // Tables: of a report, and of the values out of limits.
 
-import { button, element } from './parts.js';
+import { button, element, fill } from './parts.js';
 import { value_words } from './scale.js';
 import { FINDINGS } from '../data/runs.js';
 import { ABOVE, cells_of } from '../data/table.js';
@@ -14,20 +14,21 @@ export function table_of(label, names, rows) {
 
 const ROWS_AT_ONCE = 40;
 
-// A table of many rows: the first of them, a button for the next ones, and what `rest` says of those that are no items. `make` makes the row
-// of an item; `last` are rows that always stand at the end.
+// A table of many rows: the first of them, a button for the next ones (on paper, which has no buttons, how many these are), and what `rest` says
+// of those that are no items. `make` makes the row of an item; `last` are rows that always stand at the end.
 function long_table(label, names, items, make, rest, last = []) {
-  const table = table_of(label, names, []), more = button('More rows', () => add(), { 'aria-label': `More of ${label.toLowerCase()}` });
+  const table = table_of(label, names, []), more = button('More rows', () => add(), { 'aria-label': `More of ${label.toLowerCase()}` }), left = element('p', { class: 'hint on-paper' });
   let count = 0;
   const add = () => {
     table.tBodies[0].append(...items.slice(count, count + ROWS_AT_ONCE).map(make));
     count += ROWS_AT_ONCE;
     more.hidden = count >= items.length;
+    fill(left, more.hidden ? '' : `${counted(items.length - count, 'row', 'rows')} more, which this paper leaves out.`);
   };
   add();
   table.append(element('tbody', {}, ...last));
   const box = element('div', { class: 'report', role: 'group', tabindex: '0', 'aria-label': label }, table);
-  return [box, more, ...(rest ? [element('p', { class: 'hint' }, rest)] : [])];
+  return [box, more, left, ...(rest ? [element('p', { class: 'hint' }, rest)] : [])];
 }
 
 // A report: how many packets each cause has, its rows joined where they are neighbours, and its last rows. `told` is what the worker tells of it;

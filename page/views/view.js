@@ -97,7 +97,7 @@ export class View {
     this.strip.canvas.focus();
   }
 
-  // Puts what is shown into the fields again, in a view whose fields belong to a file.
+  // Puts what is shown into the fields again, in a view whose fields belong to a file. Before anything is shown what was typed stays.
   put_back() {}
 
   // Ends what is under way: what is shown is from before, and so is all that is asked next.

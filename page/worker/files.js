@@ -38,6 +38,7 @@ export async function* bytes_of_file(file, is_enough = () => false) {
   }
   while (read < file.size) {
     const piece = await file.read(read, read + PIECE);
+    if (piece.length === 0) throw new Error(`the file ${file.name} ends at byte ${read}, and had ${file.size} bytes: it was changed`);
     bytes.set(piece, read);
     read += piece.length;
     if (is_enough(bytes, read)) return bytes.subarray(0, read);

@@ -8,33 +8,54 @@ import { bytes_of, text_of } from '../data/text.js';
 
 const PAGE = 65536, TEXT_BYTES = 128, NO_ROOM = 11;
 const MUCH = 1 << 28; // bytes of a memory that is not kept
+const LARGE = 1 << 20; // bytes above which a block has whole pages
 let module = null, machine = null;
 
 class NoMemory extends Error {}
 
-// The heap that the module asks for memory. A block has 16 bytes more than a power of two; the first four tell the power.
-function heap_of(memory, base) {
-  const free = Array.from({ length: 33 }, () => []), view = () => new DataView(memory.buffer);
+const room_for = (bytes) => bytes > LARGE ? Math.ceil(bytes / PAGE) * PAGE : 2 ** Math.max(4, Math.ceil(Math.log2(Math.max(bytes, 1))));
+
+// Whether a memory has so many bytes, after it grew if need be.
+function has_bytes(memory, bytes) {
+  const missing = Math.ceil((bytes - memory.buffer.byteLength) / PAGE);
+  try {
+    if (missing > 0) memory.grow(missing);
+  } catch (_) {
+    return false;
+  }
+  return true;
+}
+
+// The heap that the module asks for memory. In the first four of 16 bytes before a block stands its room: a power of two, of a large one whole pages.
+export function heap_of(memory, base) {
+  const free = new Map(), view = () => new DataView(memory.buffer), room_of = (at) => view().getUint32(at - 16, true);
   let end = Math.ceil(base / 16) * 16;
+  // Has the last block begin here, and gives it this room; or tells that there is no memory for it.
+  function end_with(at, room) {
+    if (!has_bytes(memory, at + room)) return false;
+    end = at + room;
+    view().setUint32(at - 16, room, true);
+    return true;
+  }
+  // A free block of this room, or the least large one that has it.
+  function free_block(room) {
+    const enough = [...free.keys()].filter((one) => one >= room && free.get(one).length);
+    return free.get(room > LARGE ? Math.min(...enough) : room)?.pop();
+  }
   // A place for so many bytes, or null.
   function take(bytes) {
-    const power = Math.max(4, Math.ceil(Math.log2(Math.max(bytes, 1))));
-    if (power > 31) return null;
-    const kept = free[power].pop(), at = end + 16, missing = Math.ceil((at + 2 ** power - memory.buffer.byteLength) / PAGE);
-    if (kept !== undefined) return kept;
-    try {
-      if (missing > 0) memory.grow(missing);
-    } catch (_) {
-      return null;
-    }
-    end = at + 2 ** power;
-    view().setUint32(at - 16, power, true);
-    return at;
+    const room = room_for(bytes), at = end + 16;
+    return free_block(room) ?? (end_with(at, room) ? at : null);
   }
-  const give = (at) => free[view().getUint32(at - 16, true)].push(at);
-  // A place that grows or shrinks keeps what was in it.
+  function give(at) {
+    const room = room_of(at);
+    if (!free.has(room)) free.set(room, []);
+    free.get(room).push(at);
+  }
+  // A place that grows or shrinks keeps what was in it; the last one grows where it is.
   function change(at, old, bytes) {
-    if (bytes <= 2 ** view().getUint32(at - 16, true)) return at;
+    const room = room_of(at);
+    if (bytes <= room || (at + room === end && end_with(at, room_for(bytes)))) return at;
     const moved = take(bytes);
     if (moved === null) return null;
     new Uint8Array(memory.buffer).copyWithin(moved, at, at + Math.min(old, bytes));

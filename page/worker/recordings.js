@@ -27,7 +27,7 @@ async function* roles_of({ files, roles, fields }) {
 
 function role_of(front) {
   if (front.startsWith(HEAD)) return 'report';
-  return /^\s*(field|limit),/.test(front) ? 'fields' : 'recording';
+  return /^\s*("?)(field|limit)\1,/.test(front) ? 'fields' : 'recording';
 }
 
 // The table of a recording by a text of fields. The files are what is shown and what comes in its place, each with its role or none; without
@@ -42,7 +42,7 @@ export async function* recording_job(given) {
   // (what is wrong with the bits or the fields is told before much is read)
   const tried = run(new Uint8Array(0)), { size } = files[found.recording];
   if (tried.status !== 0) return { ...told, status: tried.status, text: tried.text };
-  const values = Math.floor((8 * size) / Number(bits)) * Math.max(1, fields_of(found.fields).filter(([word]) => word === 'field').length);
+  const values = Math.floor(size / Math.ceil(Number(bits) / 8)) * Math.max(1, fields_of(found.fields).filter(([word]) => word === 'field').length);
   if (values > MOST_VALUES) return { ...told, status: 5, text: `the recording has ${grouped(values)} ${VALUES}` };
   const recording = yield* bytes_of_file(files[found.recording]), report = found.report < 0 ? null : yield* bytes_of_file(files[found.report]);
   yield { doing: 'reading its fields' };

@@ -3,7 +3,7 @@
 import { EXAMPLE_NAME, example_store } from './examples.js';
 import { bytes_of_file, made_file } from './files.js';
 import { run_program } from './machine.js';
-import { stream_rows } from '../data/records.js';
+import { fields_of } from '../data/records.js';
 import { read_report, read_streams } from '../data/report.js';
 import { read_listing } from '../data/runs.js';
 import { Walk, arrivals_of } from '../data/space.js';
@@ -12,12 +12,18 @@ import { bytes_of, text_of } from '../data/text.js';
 const FRONT = 16; // bytes by which a store is known again
 const ALIKE = 'This is no store: it begins with a thousand packets of one and the same header, of a shape that is never judged';
 const MOST_STREAMS = 64; // of one run
+const IDLE = 2047; // the APID of idle packets, which is never judged
+
+// What is told of a run of a verb that is refused: over files in memory nothing but the memory fails.
+export function refused(verb, status, text) {
+  return status === 1 || status === 5 ? { status: 5, text: `${text}: this store is too large for the page; the program's \`${verb}\` takes it` } : { status, text };
+}
 
 // The bytes of a store, and what its headers tell: its APIDs with how many packets each has, the lesser ones first, and the one with most
 // packets. The rest of a file is not read after a header that is none.
 async function* read_store(file) {
   const walk = new Walk(), store = yield* bytes_of_file(file, (bytes, read) => walk.read(bytes, read));
-  const apids = [...walk.apids].sort((one, other) => one[0] - other[0]), [most] = [...apids].sort((one, other) => other[1] - one[1]);
+  const apids = [...walk.apids].filter(([apid]) => apid !== IDLE).sort((one, other) => one[0] - other[0]), [most] = [...apids].sort((one, other) => other[1] - one[1]);
   return { store, told: { apids, front: store.subarray(0, FRONT).join(' ') }, main: most ? String(most[0]) : '100', is_alike: walk.is_alike() };
 }
 
@@ -43,13 +49,13 @@ export async function* store_job({ files: [file], bits: given_bits, apid: wanted
 // The listing of a store, its runs, and where its packets begin.
 function listed(store, given, apid) {
   const { status, text, outputs: { listing } } = run_program(['show', ...given, 'out=listing'], { store });
-  if (status !== 0) return { status, text };
+  if (status !== 0) return refused('show', status, text);
   return { status, text, listing, places: arrivals_of(store, apid), runs: read_listing(listing) };
 }
 
 // What was restored: the recording, its report, and for `late`, which has no listing, the runs of the report.
 function restored({ status, text, outputs: { recording, report } }, verb) {
-  if (status !== 0) return { status, text };
+  if (status !== 0) return refused(verb, status, text);
   const read = read_report(text_of(report));
   return { status, text, recording, report, told: read.told(), ...(verb === 'late' ? { runs: read.runs } : {}) };
 }
@@ -64,8 +70,8 @@ export async function* streams_job({ files: [file, text_file], streams: given, k
   if (is_alike) return { ...answer, status: 5, text: ALIKE };
   yield { doing: 'restoring all streams' };
   const { status, text, outputs } = run_program(['multi', 'in=store', 'out=contents', 'report=report', 'streams=streams'], { store, streams: bytes_of(streams) });
-  if (status !== 0) return { ...answer, status, text };
-  const rows = stream_rows(streams), { reports, shape } = read_streams(text_of(outputs.report), rows.map(([apid]) => apid));
+  if (status !== 0) return { ...answer, ...refused('multi', status, text) };
+  const rows = fields_of(streams), { reports, shape } = read_streams(text_of(outputs.report), rows.map(([apid]) => apid));
   const found = rows.map(([apid, bits]) => ({ apid, bits, runs: reports.get(apid).runs, told: reports.get(apid).told() }));
   return { ...answer, status, text, found, shape, report: outputs.report, contents: outputs.contents };
 }
