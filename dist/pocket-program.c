@@ -352,7 +352,7 @@ typedef char joined_accesses_fit[STACK_BYTES > 256 ? 1 : -1];
 #define div_u(to, x, y) do { if ((y) == 0) goto trap; to = (x) / (y); } while (0)
 #define rem_u(to, x, y) do { if ((y) == 0) goto trap; to = (x) % (y); } while (0)
 
-/* Whether so many bytes from an address on lie in the block; no byte lies anywhere. */
+/* Whether so many bytes from an address on lie in the block; no byte lies at each of its addresses, and at its end. */
 static POCKET_MAYBE_UNUSED bool lie_in(u32 last, u32 address, u32 count) {
     const u32 offset = address - BASE;
     return offset <= last + SLACK && count <= last + SLACK - offset;
@@ -509,372 +509,256 @@ static void heap_realloc(u8 *m, u32 last, u64 told, u64 at, u64 old, u64 bytes, 
 #pragma GCC diagnostic ignored "-Wunused-function"
 #pragma GCC diagnostic ignored "-Wmaybe-uninitialized"
 #endif
-static void code_f4(uint8_t *const m, const u32 last, u64 p0, u64 p1);
-static void code_f5(uint8_t *const m, const u32 last, u64 p0);
+static void code_f4(uint8_t *const m, const u32 last, u64 p0);
+static u32 code_f5(uint8_t *const m, const u32 last, u64 p0, u64 p1, u64 p2);
 static u32 code_f6(uint8_t *const m, const u32 last, u64 p0, u64 p1, u64 p2);
-static u32 code_f7(uint8_t *const m, const u32 last, u64 p0, u64 p1, u64 p2);
-static void code_f8(uint8_t *const m, const u32 last, u64 p0);
-static void code_f9(uint8_t *const m, const u32 last, u64 p0, u64 p1, u64 p2);
-static void code_f10(uint8_t *const m, const u32 last, u64 p0, u64 p1, u64 p2, u64 p3);
-static void code_f11(uint8_t *const m, const u32 last, u64 p0, u64 p1, u64 p2);
+static void code_f7(uint8_t *const m, const u32 last, u64 p0);
+static void code_f8(uint8_t *const m, const u32 last, u64 p0, u64 p1, u64 p2);
+static void code_f9(uint8_t *const m, const u32 last, u64 p0, u64 p1, u64 p2, u64 p3);
+static void code_f10(uint8_t *const m, const u32 last, u64 p0, u64 p1, u64 p2);
+static u64 code_f11(uint8_t *const m, const u32 last, u64 p0, u64 p1, u64 p2);
 static u64 code_f12(uint8_t *const m, const u32 last, u64 p0, u64 p1, u64 p2);
-static u64 code_f13(uint8_t *const m, const u32 last, u64 p0, u64 p1, u64 p2);
-static u32 code_f14(uint8_t *const m, const u32 last, u64 p0, u64 p1, u64 p2, u64 p3, u64 p4);
-static u32 code_f15(uint8_t *const m, const u32 last, u64 p0);
-static void code_f16(uint8_t *const m, const u32 last, u64 p0, u64 p1, u64 p2, u64 p3, u64 p4);
-static u64 code_f17(uint8_t *const m, const u32 last, u64 p0, u64 p1, u32 p2);
-static void code_f18(uint8_t *const m, const u32 last, u64 p0, u64 p1, u64 p2);
-static u64 code_f19(uint8_t *const m, const u32 last, u64 p0, u64 p1);
-static void code_f20(uint8_t *const m, const u32 last, u64 p0, u64 p1, u64 p2, u32 p3, u64 p4, u32 p5, u64 p6, u64 p7, u64 p8);
-static void code_f21(uint8_t *const m, const u32 last, u64 p0, u64 p1, u64 p2, u32 p3, u64 p4, u32 p5, u64 p6, u64 p7);
-static void code_f22(uint8_t *const m, const u32 last, u64 p0, u64 p1);
-static void code_f23(uint8_t *const m, const u32 last, u64 p0, u64 p1, u64 p2, u64 p3, u64 p4, u64 p5);
-static void code_f24(uint8_t *const m, const u32 last, u64 p0, u64 p1, u64 p2, u64 p3, u64 p4);
-static void code_f25(uint8_t *const m, const u32 last, u64 p0, u64 p1, u32 p2);
+static u32 code_f13(uint8_t *const m, const u32 last, u64 p0, u64 p1, u64 p2, u64 p3, u64 p4);
+static u32 code_f14(uint8_t *const m, const u32 last, u64 p0);
+static void code_f15(uint8_t *const m, const u32 last, u64 p0, u64 p1, u64 p2, u64 p3, u64 p4);
+static u64 code_f16(uint8_t *const m, const u32 last, u64 p0, u64 p1, u32 p2);
+static void code_f17(uint8_t *const m, const u32 last, u64 p0, u64 p1, u64 p2);
+static u64 code_f18(uint8_t *const m, const u32 last, u64 p0, u64 p1);
+static void code_f19(uint8_t *const m, const u32 last, u64 p0, u64 p1, u64 p2, u32 p3, u64 p4, u32 p5, u64 p6, u64 p7, u64 p8);
+static void code_f20(uint8_t *const m, const u32 last, u64 p0, u64 p1, u64 p2, u32 p3, u64 p4, u32 p5, u64 p6, u64 p7);
+static void code_f21(uint8_t *const m, const u32 last, u64 p0, u64 p1);
+static void code_f22(uint8_t *const m, const u32 last, u64 p0, u64 p1, u64 p2, u64 p3, u64 p4, u64 p5);
+static void code_f23(uint8_t *const m, const u32 last, u64 p0, u64 p1, u64 p2, u64 p3, u64 p4);
+static void code_f24(uint8_t *const m, const u32 last, u64 p0, u64 p1, u32 p2);
+static void code_f25(uint8_t *const m, const u32 last, u64 p0, u64 p1);
 static void code_f26(uint8_t *const m, const u32 last, u64 p0, u64 p1);
-static void code_f27(uint8_t *const m, const u32 last, u64 p0, u64 p1);
-static u64 code_f28(uint8_t *const m, const u32 last, u64 p0, u64 p1, u64 p2, u64 p3, u64 p4);
+static u64 code_f27(uint8_t *const m, const u32 last, u64 p0, u64 p1, u64 p2, u64 p3, u64 p4);
+static void code_f28(uint8_t *const m, const u32 last, u64 p0, u64 p1, u64 p2, u64 p3, u32 p4, u64 p5, u64 p6);
 static void code_f29(uint8_t *const m, const u32 last, u64 p0, u64 p1, u64 p2, u64 p3, u32 p4, u64 p5, u64 p6);
-static void code_f30(uint8_t *const m, const u32 last, u64 p0, u64 p1, u64 p2, u64 p3, u32 p4, u64 p5, u64 p6);
+static void code_f30(uint8_t *const m, const u32 last, u64 p0, u64 p1, u32 p2);
 static void code_f31(uint8_t *const m, const u32 last, u64 p0, u64 p1, u32 p2);
-static void code_f32(uint8_t *const m, const u32 last, u64 p0, u64 p1, u32 p2);
+static void code_f32(uint8_t *const m, const u32 last, u64 p0, u32 p1);
 static void code_f33(uint8_t *const m, const u32 last, u64 p0, u32 p1);
-static void code_f34(uint8_t *const m, const u32 last, u64 p0, u32 p1);
-static void code_f35(uint8_t *const m, const u32 last, u64 p0, u64 p1, u64 p2, u64 p3, u64 p4);
-static void code_f36(uint8_t *const m, const u32 last, u64 p0, u64 p1, u64 p2, u32 p3, u64 p4);
-static u32 code_f37(uint8_t *const m, const u32 last, u64 p0, u32 p1, u64 p2, u32 p3);
-static void code_f38(uint8_t *const m, const u32 last, u64 p0, u64 p1, u32 p2);
-static void code_f39(uint8_t *const m, const u32 last, u64 p0, u64 p1, u64 p2, u64 p3, u64 p4);
-static void code_f40(uint8_t *const m, const u32 last, u64 p0, u64 p1);
-static u64 code_f41(uint8_t *const m, const u32 last, u64 p0, u64 p1);
-static void code_f42(uint8_t *const m, const u32 last, u64 p0, u64 p1);
-static u32 code_f43(uint8_t *const m, const u32 last, u64 p0, u64 p1, u64 p2, u64 p3, u64 p4, u32 p5);
-static u64 code_f44(uint8_t *const m, const u32 last, u64 p0, u64 p1, u32 p2, u64 p3, u64 p4, u64 p5);
-static void code_f45(uint8_t *const m, const u32 last, u64 p0);
-static u32 code_f46(uint8_t *const m, const u32 last, u64 p0);
-static void code_f47(uint8_t *const m, const u32 last, u64 p0, u32 p1, u64 p2, u64 p3);
-static u64 code_f48(uint8_t *const m, const u32 last, u64 p0, u64 p1, u64 p2);
-static u32 code_f49(uint8_t *const m, const u32 last, u64 p0, u64 p1, u64 p2, u64 p3);
-static u32 code_f50(uint8_t *const m, const u32 last, u64 p0, u64 p1, u64 p2, u64 p3, u32 p4, u32 p5, u64 p6, u64 p7);
-static void code_f51(uint8_t *const m, const u32 last, u64 p0, u64 p1, u64 p2, u64 p3, u64 p4, u32 p5);
-static void code_f52(uint8_t *const m, const u32 last, u64 p0, u64 p1, u64 p2, u64 p3, u64 p4);
-static u32 code_f53(uint8_t *const m, const u32 last, u64 p0, u64 p1, u64 p2, u64 p3);
-static void code_f54(uint8_t *const m, const u32 last, u64 p0, u32 p1, u64 p2, u64 p3);
-static void code_f55(uint8_t *const m, const u32 last, u64 p0, u64 p1);
-static void code_f56(uint8_t *const m, const u32 last, u64 p0, u64 p1, u32 p2, u64 p3);
-static u32 code_f57(uint8_t *const m, const u32 last, u64 p0);
-static u32 code_f58(uint8_t *const m, const u32 last, u64 p0, u64 p1);
-static void code_f59(uint8_t *const m, const u32 last, u64 p0, u64 p1, u32 p2, u64 p3, u64 p4);
-static void code_f60(uint8_t *const m, const u32 last, u64 p0, u64 p1, u64 p2, u64 p3);
-static void code_f61(uint8_t *const m, const u32 last, u64 p0, u64 p1, u64 p2);
-static void code_f62(uint8_t *const m, const u32 last, u64 p0, u32 p1, u32 p2, u32 p3, u64 p4, u64 p5);
-static void code_f63(uint8_t *const m, const u32 last, u64 p0, u64 p1, u64 p2);
-static void code_f64(uint8_t *const m, const u32 last, u64 p0, u32 p1, u64 p2);
-static void code_f65(uint8_t *const m, const u32 last, u64 p0, u32 p1, u32 p2);
-static void code_f66(uint8_t *const m, const u32 last, u64 p0, u32 p1, u32 p2, u32 p3, u32 p4, u64 p5);
-static void code_f67(uint8_t *const m, const u32 last, u64 p0, u64 p1);
-static void code_f68(uint8_t *const m, const u32 last, u64 p0, u64 p1, u64 p2, u64 p3);
-static void code_f69(uint8_t *const m, const u32 last, u64 p0, u64 p1);
-static u32 code_f70(uint8_t *const m, const u32 last, u64 p0);
+static void code_f34(uint8_t *const m, const u32 last, u64 p0, u64 p1, u64 p2, u64 p3, u64 p4);
+static void code_f35(uint8_t *const m, const u32 last, u64 p0, u64 p1, u64 p2, u32 p3, u64 p4);
+static u32 code_f36(uint8_t *const m, const u32 last, u64 p0, u32 p1, u64 p2, u32 p3);
+static void code_f37(uint8_t *const m, const u32 last, u64 p0, u64 p1, u32 p2);
+static void code_f38(uint8_t *const m, const u32 last, u64 p0, u64 p1, u64 p2, u64 p3, u64 p4);
+static void code_f39(uint8_t *const m, const u32 last, u64 p0, u64 p1);
+static u64 code_f40(uint8_t *const m, const u32 last, u64 p0, u64 p1);
+static void code_f41(uint8_t *const m, const u32 last, u64 p0, u64 p1);
+static u32 code_f42(uint8_t *const m, const u32 last, u64 p0, u64 p1, u64 p2, u64 p3, u64 p4, u32 p5);
+static u64 code_f43(uint8_t *const m, const u32 last, u64 p0, u64 p1, u32 p2, u64 p3, u64 p4, u64 p5);
+static void code_f44(uint8_t *const m, const u32 last, u64 p0);
+static u32 code_f45(uint8_t *const m, const u32 last, u64 p0);
+static void code_f46(uint8_t *const m, const u32 last, u64 p0, u32 p1, u64 p2, u64 p3);
+static u64 code_f47(uint8_t *const m, const u32 last, u64 p0, u64 p1, u64 p2);
+static u32 code_f48(uint8_t *const m, const u32 last, u64 p0, u64 p1, u64 p2, u64 p3);
+static u32 code_f49(uint8_t *const m, const u32 last, u64 p0, u64 p1, u64 p2, u64 p3, u32 p4, u32 p5, u64 p6, u64 p7);
+static void code_f50(uint8_t *const m, const u32 last, u64 p0, u64 p1, u64 p2, u64 p3, u64 p4, u32 p5);
+static void code_f51(uint8_t *const m, const u32 last, u64 p0, u64 p1, u64 p2, u64 p3, u64 p4);
+static u32 code_f52(uint8_t *const m, const u32 last, u64 p0, u64 p1, u64 p2, u64 p3);
+static void code_f53(uint8_t *const m, const u32 last, u64 p0, u32 p1, u64 p2, u64 p3);
+static void code_f54(uint8_t *const m, const u32 last, u64 p0, u64 p1);
+static void code_f55(uint8_t *const m, const u32 last, u64 p0, u64 p1, u32 p2, u64 p3);
+static u32 code_f56(uint8_t *const m, const u32 last, u64 p0);
+static u32 code_f57(uint8_t *const m, const u32 last, u64 p0, u64 p1);
+static void code_f58(uint8_t *const m, const u32 last, u64 p0, u64 p1, u32 p2, u64 p3, u64 p4);
+static void code_f59(uint8_t *const m, const u32 last, u64 p0, u64 p1, u64 p2, u64 p3);
+static void code_f60(uint8_t *const m, const u32 last, u64 p0, u64 p1, u64 p2);
+static void code_f61(uint8_t *const m, const u32 last, u64 p0, u32 p1, u32 p2, u32 p3, u64 p4, u64 p5);
+static void code_f62(uint8_t *const m, const u32 last, u64 p0, u64 p1, u64 p2);
+static void code_f63(uint8_t *const m, const u32 last, u64 p0, u32 p1, u64 p2);
+static void code_f64(uint8_t *const m, const u32 last, u64 p0, u32 p1, u32 p2);
+static void code_f65(uint8_t *const m, const u32 last, u64 p0, u32 p1, u32 p2, u32 p3, u32 p4, u64 p5);
+static void code_f66(uint8_t *const m, const u32 last, u64 p0, u64 p1);
+static void code_f67(uint8_t *const m, const u32 last, u64 p0, u64 p1, u64 p2, u64 p3);
+static void code_f68(uint8_t *const m, const u32 last, u64 p0, u64 p1);
+static u32 code_f69(uint8_t *const m, const u32 last, u64 p0);
+static void code_f70(uint8_t *const m, const u32 last, u64 p0);
 static void code_f71(uint8_t *const m, const u32 last, u64 p0);
-static void code_f72(uint8_t *const m, const u32 last, u64 p0);
-static u32 code_f73(uint8_t *const m, const u32 last, u64 p0, u64 p1);
+static u32 code_f72(uint8_t *const m, const u32 last, u64 p0, u64 p1);
+static u32 code_f73(uint8_t *const m, const u32 last, u64 p0);
 static u32 code_f74(uint8_t *const m, const u32 last, u64 p0);
 static u32 code_f75(uint8_t *const m, const u32 last, u64 p0);
 static u32 code_f76(uint8_t *const m, const u32 last, u64 p0);
-static u32 code_f77(uint8_t *const m, const u32 last, u64 p0);
+static void code_f77(uint8_t *const m, const u32 last, u64 p0, u64 p1);
 static void code_f78(uint8_t *const m, const u32 last, u64 p0, u64 p1);
 static void code_f79(uint8_t *const m, const u32 last, u64 p0, u64 p1);
-static void code_f80(uint8_t *const m, const u32 last, u64 p0, u64 p1);
-static void code_f81(uint8_t *const m, const u32 last, u64 p0, u64 p1, u64 p2);
-static u32 code_f82(uint8_t *const m, const u32 last, u64 p0);
+static void code_f80(uint8_t *const m, const u32 last, u64 p0, u64 p1, u64 p2);
+static u32 code_f81(uint8_t *const m, const u32 last, u64 p0);
+static u32 code_f82(uint8_t *const m, const u32 last, u64 p0, u64 p1);
 static u32 code_f83(uint8_t *const m, const u32 last, u64 p0, u64 p1);
-static u32 code_f84(uint8_t *const m, const u32 last, u64 p0, u64 p1);
-static void code_f85(uint8_t *const m, const u32 last, u64 p0, u64 p1, u64 p2);
-static void code_f86(uint8_t *const m, const u32 last, u64 p0, u32 p1, u64 p2);
-static void code_f87(uint8_t *const m, const u32 last, u64 p0, u64 p1, u64 p2);
-static void code_f88(uint8_t *const m, const u32 last, u64 p0, u64 p1);
-static void code_f89(uint8_t *const m, const u32 last, u64 p0, u64 p1, u64 p2);
+static void code_f84(uint8_t *const m, const u32 last, u64 p0, u64 p1, u64 p2);
+static void code_f85(uint8_t *const m, const u32 last, u64 p0, u32 p1, u64 p2);
+static void code_f86(uint8_t *const m, const u32 last, u64 p0, u64 p1, u64 p2);
+static void code_f87(uint8_t *const m, const u32 last, u64 p0, u64 p1);
+static void code_f88(uint8_t *const m, const u32 last, u64 p0, u64 p1, u64 p2);
+static void code_f89(uint8_t *const m, const u32 last, u64 p0, u64 p1);
 static void code_f90(uint8_t *const m, const u32 last, u64 p0, u64 p1);
-static void code_f91(uint8_t *const m, const u32 last, u64 p0, u64 p1);
+static u32 code_f91(uint8_t *const m, const u32 last, u64 p0, u64 p1);
 static u32 code_f92(uint8_t *const m, const u32 last, u64 p0, u64 p1);
-static u32 code_f93(uint8_t *const m, const u32 last, u64 p0, u64 p1);
-static void code_f94(uint8_t *const m, const u32 last, u64 p0, u64 p1);
-static u32 code_f95(uint8_t *const m, const u32 last, u64 p0);
-static u32 code_f96(uint8_t *const m, const u32 last, u64 p0, u64 p1, u64 p2);
+static void code_f93(uint8_t *const m, const u32 last, u64 p0, u64 p1);
+static u32 code_f94(uint8_t *const m, const u32 last, u64 p0);
+static u32 code_f95(uint8_t *const m, const u32 last, u64 p0, u64 p1, u64 p2);
+static void code_f96(uint8_t *const m, const u32 last, u64 p0, u64 p1, u64 p2);
 static void code_f97(uint8_t *const m, const u32 last, u64 p0, u64 p1, u64 p2);
 static void code_f98(uint8_t *const m, const u32 last, u64 p0, u64 p1, u64 p2);
-static void code_f99(uint8_t *const m, const u32 last, u64 p0, u64 p1, u64 p2);
-static u32 code_f100(uint8_t *const m, const u32 last, u64 p0, u64 p1);
-static void code_f101(uint8_t *const m, const u32 last, u64 p0, u64 p1);
-static void code_f102(uint8_t *const m, const u32 last, u64 p0, u64 p1, u64 p2, u32 p3, u64 p4);
-static u32 code_f103(uint8_t *const m, const u32 last, u64 p0);
-static void code_f104(uint8_t *const m, const u32 last, u64 p0, u64 p1, u64 p2);
-static void code_f105(uint8_t *const m, const u32 last, u64 p0, u64 p1);
-static void code_f106(uint8_t *const m, const u32 last, u64 p0, u64 p1, u64 p2, u32 p3);
-static void code_f107(uint8_t *const m, const u32 last, u64 p0, u64 p1, u64 p2);
-static void code_f108(uint8_t *const m, const u32 last, u64 p0, u64 p1, u64 p2, u64 p3, u32 p4);
-static void code_f109(uint8_t *const m, const u32 last, u64 p0, u64 p1, u64 p2);
-static u64 code_f110(uint8_t *const m, const u32 last, u64 p0, u64 p1, u64 p2, u64 p3);
-static u64 code_f111(uint8_t *const m, const u32 last, u64 p0, u64 p1, u64 p2, u64 p3, u64 p4);
-static u32 code_f112(uint8_t *const m, const u32 last, u64 p0, u64 p1);
-static u32 code_f113(uint8_t *const m, const u32 last, u64 p0, u64 p1, u64 p2, u64 p3, u64 p4);
-static u32 code_f114(uint8_t *const m, const u32 last, u64 p0);
-static void code_f115(uint8_t *const m, const u32 last, u64 p0, u64 p1, u64 p2, u64 p3, u64 p4, u64 p5);
-static void code_f116(uint8_t *const m, const u32 last, u64 p0, u64 p1, u64 p2);
-static void code_f117(uint8_t *const m, const u32 last, u64 p0, u64 p1, u32 p2);
-static void code_f118(uint8_t *const m, const u32 last, u64 p0, u64 p1, u32 p2, u64 p3, u64 p4);
-static void code_f119(uint8_t *const m, const u32 last, u64 p0);
-static void code_f120(uint8_t *const m, const u32 last, u64 p0, u64 p1, u64 p2, u64 p3, u64 p4, u64 p5, u64 p6, u64 p7);
-static u32 code_f121(uint8_t *const m, const u32 last, u64 p0, u32 p1);
-static u32 code_f122(uint8_t *const m, const u32 last, u64 p0, u64 p1);
+static u32 code_f99(uint8_t *const m, const u32 last, u64 p0, u64 p1);
+static void code_f100(uint8_t *const m, const u32 last, u64 p0, u64 p1);
+static void code_f101(uint8_t *const m, const u32 last, u64 p0, u64 p1, u64 p2, u32 p3, u64 p4);
+static u32 code_f102(uint8_t *const m, const u32 last, u64 p0);
+static void code_f103(uint8_t *const m, const u32 last, u64 p0, u64 p1, u64 p2);
+static void code_f104(uint8_t *const m, const u32 last, u64 p0, u64 p1);
+static void code_f105(uint8_t *const m, const u32 last, u64 p0, u64 p1, u64 p2, u32 p3);
+static void code_f106(uint8_t *const m, const u32 last, u64 p0, u64 p1, u64 p2);
+static void code_f107(uint8_t *const m, const u32 last, u64 p0, u64 p1, u64 p2, u64 p3, u32 p4);
+static void code_f108(uint8_t *const m, const u32 last, u64 p0, u64 p1, u64 p2);
+static u64 code_f109(uint8_t *const m, const u32 last, u64 p0, u64 p1, u64 p2, u64 p3);
+static u64 code_f110(uint8_t *const m, const u32 last, u64 p0, u64 p1, u64 p2, u64 p3, u64 p4);
+static u32 code_f111(uint8_t *const m, const u32 last, u64 p0, u64 p1);
+static u32 code_f112(uint8_t *const m, const u32 last, u64 p0, u64 p1, u64 p2, u64 p3, u64 p4);
+static u32 code_f113(uint8_t *const m, const u32 last, u64 p0);
+static void code_f114(uint8_t *const m, const u32 last, u64 p0, u64 p1, u64 p2, u64 p3, u64 p4, u64 p5);
+static void code_f115(uint8_t *const m, const u32 last, u64 p0, u64 p1, u64 p2);
+static void code_f116(uint8_t *const m, const u32 last, u64 p0, u64 p1, u32 p2);
+static void code_f117(uint8_t *const m, const u32 last, u64 p0, u64 p1, u32 p2, u64 p3, u64 p4);
+static void code_f118(uint8_t *const m, const u32 last, u64 p0);
+static void code_f119(uint8_t *const m, const u32 last, u64 p0, u64 p1, u64 p2, u64 p3, u64 p4, u64 p5, u64 p6, u64 p7);
+static u32 code_f120(uint8_t *const m, const u32 last, u64 p0, u32 p1);
+static u32 code_f121(uint8_t *const m, const u32 last, u64 p0, u64 p1);
+static void code_f122(uint8_t *const m, const u32 last, u64 p0, u64 p1);
 static void code_f123(uint8_t *const m, const u32 last, u64 p0, u64 p1);
 static void code_f124(uint8_t *const m, const u32 last, u64 p0, u64 p1);
-static void code_f125(uint8_t *const m, const u32 last, u64 p0, u64 p1);
-static u32 code_f126(uint8_t *const m, const u32 last, u64 p0, u64 p1);
-static u32 code_f127(uint8_t *const m, const u32 last, u64 p0, u32 p1, u64 p2, u64 p3);
-static void code_f128(uint8_t *const m, const u32 last, u64 p0, u64 p1, u64 p2, u64 p3, u64 p4);
-static void code_f129(uint8_t *const m, const u32 last, u64 p0, u64 p1, u64 p2);
-static void code_f130(uint8_t *const m, const u32 last, u64 p0, u64 p1, u64 p2, u64 p3, u64 p4);
-static void code_f131(uint8_t *const m, const u32 last, u64 p0, u64 p1, u64 p2);
-static u32 code_f132(uint8_t *const m, const u32 last, u64 p0, u64 p1);
-static void code_f133(uint8_t *const m, const u32 last, u64 p0, u64 p1);
+static u32 code_f125(uint8_t *const m, const u32 last, u64 p0, u64 p1);
+static u32 code_f126(uint8_t *const m, const u32 last, u64 p0, u32 p1, u64 p2, u64 p3);
+static void code_f127(uint8_t *const m, const u32 last, u64 p0, u64 p1, u64 p2, u64 p3, u64 p4);
+static void code_f128(uint8_t *const m, const u32 last, u64 p0, u64 p1, u64 p2);
+static void code_f129(uint8_t *const m, const u32 last, u64 p0, u64 p1, u64 p2, u64 p3, u64 p4);
+static void code_f130(uint8_t *const m, const u32 last, u64 p0, u64 p1, u64 p2);
+static u32 code_f131(uint8_t *const m, const u32 last, u64 p0, u64 p1);
+static void code_f132(uint8_t *const m, const u32 last, u64 p0, u64 p1);
+static u32 code_f133(uint8_t *const m, const u32 last, u64 p0, u64 p1);
 static u32 code_f134(uint8_t *const m, const u32 last, u64 p0, u64 p1);
-static u32 code_f135(uint8_t *const m, const u32 last, u64 p0, u64 p1);
-static u32 code_f136(uint8_t *const m, const u32 last, u64 p0, u32 p1, u64 p2);
+static u32 code_f135(uint8_t *const m, const u32 last, u64 p0, u32 p1, u64 p2);
+static u32 code_f136(uint8_t *const m, const u32 last, u64 p0, u64 p1, u64 p2, u64 p3, u64 p4);
 static u32 code_f137(uint8_t *const m, const u32 last, u64 p0, u64 p1, u64 p2, u64 p3, u64 p4);
-static u32 code_f138(uint8_t *const m, const u32 last, u64 p0, u64 p1, u64 p2, u64 p3, u64 p4);
-static u32 code_f139(uint8_t *const m, const u32 last, u64 p0, u64 p1, u64 p2, u64 p3);
+static u32 code_f138(uint8_t *const m, const u32 last, u64 p0, u64 p1, u64 p2, u64 p3);
+static void code_f139(uint8_t *const m, const u32 last, u64 p0);
 static void code_f140(uint8_t *const m, const u32 last, u64 p0);
 static void code_f141(uint8_t *const m, const u32 last, u64 p0);
-static void code_f142(uint8_t *const m, const u32 last, u64 p0);
 static u32 code_pocket_desk_open(uint8_t *const m, const u32 last, u64 p0);
 static u32 code_pocket_put(uint8_t *const m, const u32 last, u64 p0, u64 p1, u64 p2, u64 p3, u64 p4);
 static u32 code_pocket_word(uint8_t *const m, const u32 last, u64 p0, u64 p1, u64 p2);
 static u32 code_pocket_get(uint8_t *const m, const u32 last, u64 p0, u64 p1, u64 p2, u64 p3, u64 p4, u64 p5);
 static u32 code_pocket_run(uint8_t *const m, const u32 last, u64 p0, u64 p1, u64 p2, u64 p3, u64 p4);
 
-static void code_f4(uint8_t *const m, const u32 last, u64 p0, u64 p1) {
-  u64 l2 = 0, l3 = 0, l4 = 0, l5 = 0, l6 = 0, l7 = 0, l8 = 0, l9 = 0, l10 = 0, l11 = 0, l12 = 0, l13 = 0, l14 = 0, l15 = 0, l16 = 0, l17 = 0, l18 = 0, l19 = 0, l20 = 0, l21 = 0, l22 = 0, l23 = 0, l24 = 0, l25 = 0, l26 = 0, l27 = 0, l28 = 0, l29 = 0, l30 = 0, l31 = 0, l32 = 0, l33 = 0, l34 = 0, l35 = 0, l36 = 0, l37 = 0, l38 = 0, l39 = 0, l40 = 0, l41 = 0, l42 = 0, l43 = 0, l44 = 0, l45 = 0, l46 = 0, l47 = 0, l48 = 0;
-  u32 i0;
-  u64 j0, j1;
-  uint8_t *a0, *a1, *a2, *frame, *a4;
-  enter(l2, 48);
-  frame = place(l2);
-  j0 = l2;
+static void code_f4(uint8_t *const m, const u32 last, u64 p0) {
+  u64 l1 = 0, l2 = 0, l3 = 0, l4 = 0, l5 = 0, l6 = 0, l7 = 0, l8 = 0, l9 = 0, l10 = 0, l11 = 0, l12 = 0, l13 = 0, l14 = 0, l15 = 0, l16 = 0, l17 = 0, l18 = 0, l19 = 0, l20 = 0, l21 = 0, l22 = 0, l23 = 0, l24 = 0, l25 = 0, l26 = 0;
+  u32 i0, i2, i4;
+  u64 j0, j1, j2, j3, j4, j5;
+  uint8_t *a0, *a1, *a2;
   j0 = p0;
   i0 = (u32)(j0);
-  reach(a0, i0, 0, 8);
-  i64_load_at(j0, a0, 8);
+  reach(a0, i0, 256, 184);
+  i64_load_at(j0, a0, 184);
+  l1 = j0;
+  j0 = p0;
+  i0 = (u32)(j0);
+  i64_load_at(j0, a0, 168);
+  l2 = j0;
+  j0 = p0;
+  i0 = (u32)(j0);
+  i64_load_at(j0, a0, 152);
   l3 = j0;
   j0 = p0;
   i0 = (u32)(j0);
-  j1 = 1ull;
-  i64_store_at(j1, a0, 8);
-  j0 = p0;
-  i0 = (u32)(j0);
-  i64_load_at(j0, a0, 0);
+  i64_load_at(j0, a0, 136);
   l4 = j0;
   j0 = p0;
   i0 = (u32)(j0);
-  j1 = p1;
-  i64_store_at(j1, a0, 0);
-  j0 = l3;
-  i0 = !(j0);
-  if (i0) {goto B0;}
-  j0 = l4;
-  i0 = (u32)(j0);
-  reach(a1, i0, 256, 200);
-  i64_load_at(j0, a1, 200);
+  i64_load_at(j0, a0, 96);
   l5 = j0;
-  j0 = l4;
+  j0 = p0;
   i0 = (u32)(j0);
-  i64_load_at(j0, a1, 184);
+  i64_load_at(j0, a0, 80);
   l6 = j0;
-  j0 = l4;
+  j0 = p0;
   i0 = (u32)(j0);
-  i64_load_at(j0, a1, 168);
+  i64_load_at(j0, a0, 72);
   l7 = j0;
-  j0 = l4;
+  j0 = p0;
+  i0 = (u32)(j0);
+  i64_load_at(j0, a0, 56);
+  l8 = j0;
+  j0 = p0;
+  i0 = (u32)(j0);
+  i64_load_at(j0, a0, 40);
+  l9 = j0;
+  j0 = p0;
+  i0 = (u32)(j0);
+  i64_load_at(j0, a0, 24);
+  l10 = j0;
+  j0 = p0;
+  i0 = (u32)(j0);
+  i64_load_at(j0, a0, 0);
+  l11 = j0;
+  j0 = p0;
+  i0 = (u32)(j0);
+  reach(a1, i0, 0, 240);
+  i64_load_at(j0, a1, 240);
+  l12 = j0;
+  j0 = p0;
+  i0 = (u32)(j0);
+  i64_load_at(j0, a1, 208);
+  l13 = j0;
+  j0 = p0;
+  i0 = (u32)(j0);
+  i64_load_at(j0, a1, 176);
+  l14 = j0;
+  j0 = p0;
+  i0 = (u32)(j0);
+  i64_load_at(j0, a1, 160);
+  l15 = j0;
+  j0 = p0;
   i0 = (u32)(j0);
   i64_load_at(j0, a1, 152);
-  l8 = j0;
-  j0 = l4;
-  i0 = (u32)(j0);
-  i64_load_at(j0, a1, 144);
-  l9 = j0;
-  j0 = l4;
+  l16 = j0;
+  j0 = p0;
   i0 = (u32)(j0);
   i64_load_at(j0, a1, 136);
-  p0 = j0;
-  j0 = l4;
-  i0 = (u32)(j0);
-  i64_load_at(j0, a1, 128);
-  l10 = j0;
-  j0 = l4;
+  l17 = j0;
+  j0 = p0;
   i0 = (u32)(j0);
   i64_load_at(j0, a1, 120);
-  l11 = j0;
-  j0 = l4;
+  l18 = j0;
+  j0 = p0;
   i0 = (u32)(j0);
   i64_load_at(j0, a1, 104);
-  l12 = j0;
-  j0 = l4;
-  i0 = (u32)(j0);
-  i64_load_at(j0, a1, 96);
-  l13 = j0;
-  j0 = l4;
+  l19 = j0;
+  j0 = p0;
   i0 = (u32)(j0);
   i64_load_at(j0, a1, 88);
-  l14 = j0;
-  j0 = l4;
-  i0 = (u32)(j0);
-  i64_load_at(j0, a1, 80);
-  l15 = j0;
-  j0 = l4;
-  i0 = (u32)(j0);
-  i64_load_at(j0, a1, 72);
-  l16 = j0;
-  j0 = l4;
-  i0 = (u32)(j0);
-  i64_load_at(j0, a1, 64);
-  l17 = j0;
-  j0 = l4;
+  l20 = j0;
+  j0 = p0;
   i0 = (u32)(j0);
   i64_load_at(j0, a1, 56);
-  l18 = j0;
-  j0 = l4;
-  i0 = (u32)(j0);
-  i64_load_at(j0, a1, 48);
-  l19 = j0;
-  j0 = l4;
+  l21 = j0;
+  j0 = p0;
   i0 = (u32)(j0);
   i64_load_at(j0, a1, 40);
-  l20 = j0;
-  j0 = l4;
-  i0 = (u32)(j0);
-  i64_load_at(j0, a1, 32);
-  l21 = j0;
-  j0 = l4;
+  l22 = j0;
+  j0 = p0;
   i0 = (u32)(j0);
   i64_load_at(j0, a1, 24);
-  l22 = j0;
-  j0 = l4;
-  i0 = (u32)(j0);
-  i64_load_at(j0, a1, 16);
   l23 = j0;
-  j0 = l4;
+  j0 = p0;
   i0 = (u32)(j0);
-  i64_load_at(j0, a1, 0);
+  i64_load_at(j0, a1, 8);
   l24 = j0;
-  j0 = l4;
+  j0 = p0;
   i0 = (u32)(j0);
-  reach(a2, i0, 0, 248);
-  i64_load_at(j0, a2, 248);
-  l25 = j0;
-  j0 = l4;
-  i0 = (u32)(j0);
-  i64_load_at(j0, a2, 240);
-  l26 = j0;
-  j0 = l4;
-  i0 = (u32)(j0);
-  i64_load_at(j0, a2, 232);
-  l27 = j0;
-  j0 = l4;
-  i0 = (u32)(j0);
-  i64_load_at(j0, a2, 224);
-  l28 = j0;
-  j0 = l4;
-  i0 = (u32)(j0);
-  i64_load_at(j0, a2, 216);
-  l29 = j0;
-  j0 = l4;
-  i0 = (u32)(j0);
-  i64_load_at(j0, a2, 208);
-  l30 = j0;
-  j0 = l4;
-  i0 = (u32)(j0);
-  i64_load_at(j0, a2, 200);
-  l31 = j0;
-  j0 = l4;
-  i0 = (u32)(j0);
-  i64_load_at(j0, a2, 192);
-  l32 = j0;
-  j0 = l4;
-  i0 = (u32)(j0);
-  i64_load_at(j0, a2, 184);
-  l33 = j0;
-  j0 = l4;
-  i0 = (u32)(j0);
-  i64_load_at(j0, a2, 176);
-  l34 = j0;
-  j0 = l4;
-  i0 = (u32)(j0);
-  i64_load_at(j0, a2, 168);
-  l35 = j0;
-  j0 = l4;
-  i0 = (u32)(j0);
-  i64_load_at(j0, a2, 160);
-  l36 = j0;
-  j0 = l4;
-  i0 = (u32)(j0);
-  i64_load_at(j0, a2, 152);
-  l37 = j0;
-  j0 = l4;
-  i0 = (u32)(j0);
-  i64_load_at(j0, a2, 136);
-  l38 = j0;
-  j0 = l4;
-  i0 = (u32)(j0);
-  i64_load_at(j0, a2, 120);
-  l39 = j0;
-  j0 = l4;
-  i0 = (u32)(j0);
-  i64_load_at(j0, a2, 104);
-  l40 = j0;
-  j0 = l4;
-  i0 = (u32)(j0);
-  i64_load_at(j0, a2, 96);
-  l41 = j0;
-  j0 = l4;
-  i0 = (u32)(j0);
-  i64_load_at(j0, a2, 88);
-  l42 = j0;
-  j0 = l4;
-  i0 = (u32)(j0);
-  i64_load_at(j0, a2, 80);
-  l43 = j0;
-  j0 = l4;
-  i0 = (u32)(j0);
-  i64_load_at(j0, a2, 72);
-  l44 = j0;
-  j0 = l4;
-  i0 = (u32)(j0);
-  i64_load_at(j0, a2, 56);
-  l45 = j0;
-  j0 = l4;
-  i0 = (u32)(j0);
-  i64_load_at(j0, a2, 40);
-  l46 = j0;
-  j0 = l4;
-  i0 = (u32)(j0);
-  i64_load_at(j0, a2, 24);
-  l47 = j0;
-  j0 = l4;
-  i0 = (u32)(j0);
-  i64_load_at(j0, a2, 16);
-  p1 = j0;
-  j0 = l4;
-  i0 = (u32)(j0);
-  i64_load_at(j0, a2, 8);
-  l48 = j0;
-  j0 = l4;
-  i0 = (u32)(j0);
-  i64_load8_u_at(j0, a2, 0);
-  l3 = j0;
-  j0 = l4;
-  call(heap_dealloc(m, last, j0));
-  j0 = l3;
+  i64_load8_u_at(j0, a1, 0);
   i0 = (u32)(j0);
   switch (i0) {
     case 1: goto B2;
@@ -882,451 +766,482 @@ static void code_f4(uint8_t *const m, const u32 last, u64 p0, u64 p1) {
     default: goto B3;
   }
   B3:;
-  j0 = l2;
+  j0 = p0;
   i0 = (u32)(j0);
-  j1 = l33;
-  i64_store_at(j1, frame, 40);
-  j0 = l2;
+  i64_load(j0, i0, 248);
+  l17 = j0;
+  j0 = p0;
   i0 = (u32)(j0);
-  j1 = l34;
-  i64_store_at(j1, frame, 32);
-  j0 = l2;
+  i64_load_at(j0, a1, 192);
+  l12 = j0;
+  j0 = p0;
   i0 = (u32)(j0);
-  j1 = l35;
-  i64_store_at(j1, frame, 24);
-  j0 = l2;
+  i64_load_at(j0, a1, 168);
+  l11 = j0;
+  j0 = p0;
   i0 = (u32)(j0);
-  j1 = l36;
-  i64_store_at(j1, frame, 16);
-  j0 = l2;
+  i64_load_at(j0, a1, 72);
+  l25 = j0;
+  j0 = p0;
   i0 = (u32)(j0);
-  j1 = l37;
-  i64_store_at(j1, frame, 8);
-  j0 = l47;
+  i64_load_at(j0, a1, 232);
+  l26 = j0;
+  j0 = l23;
   i0 = !(j0);
   if (i0) {goto B4;}
-  j0 = l48;
+  j0 = l24;
   call(heap_dealloc(m, last, j0));
   B4:;
-  j0 = l45;
-  i0 = !(j0);
-  if (i0) {goto B5;}
-  j0 = l46;
-  call(heap_dealloc(m, last, j0));
-  B5:;
-  j0 = l42;
-  i0 = !(j0);
-  if (i0) {goto B6;}
-  j0 = l44;
-  call(heap_dealloc(m, last, j0));
-  B6:;
-  j0 = l39;
-  i0 = !(j0);
-  if (i0) {goto B7;}
-  j0 = l40;
-  call(heap_dealloc(m, last, j0));
-  B7:;
-  j0 = l2;
-  j1 = 8ull;
-  j0 += j1;
-  call(code_f5(m, last, j0));
-  j0 = l30;
-  i0 = !(j0);
-  if (i0) {goto B8;}
-  j0 = l32;
-  call(heap_dealloc(m, last, j0));
-  B8:;
-  j0 = l25;
-  i0 = !(j0);
-  if (i0) {goto B9;}
-  j0 = l27;
-  call(heap_dealloc(m, last, j0));
-  B9:;
-  j0 = l20;
-  i0 = !(j0);
-  if (i0) {goto B10;}
-  j0 = l22;
-  call(heap_dealloc(m, last, j0));
-  B10:;
-  j0 = l16;
-  i0 = !(j0);
-  if (i0) {goto B11;}
-  j0 = l18;
-  call(heap_dealloc(m, last, j0));
-  B11:;
-  j0 = l13;
-  i0 = !(j0);
-  if (i0) {goto B12;}
-  j0 = l15;
-  call(heap_dealloc(m, last, j0));
-  B12:;
-  j0 = l8;
-  i0 = !(j0);
-  if (i0) {goto B13;}
-  j0 = p0;
-  call(heap_dealloc(m, last, j0));
-  B13:;
-  j0 = l6;
-  i0 = !(j0);
-  if (i0) {goto B0;}
-  j0 = l7;
-  call(heap_dealloc(m, last, j0));
-  goto B0;
-  B2:;
-  j0 = l45;
-  i0 = !(j0);
-  if (i0) {goto B14;}
-  j0 = l46;
-  call(heap_dealloc(m, last, j0));
-  B14:;
-  j0 = l40;
-  i0 = !(j0);
-  if (i0) {goto B15;}
-  j0 = l42;
-  call(heap_dealloc(m, last, j0));
-  B15:;
-  j0 = l38;
-  i0 = !(j0);
-  if (i0) {goto B16;}
-  j0 = l39;
-  call(heap_dealloc(m, last, j0));
-  B16:;
-  j0 = l34;
-  i0 = !(j0);
-  if (i0) {goto B17;}
-  j0 = l36;
-  call(heap_dealloc(m, last, j0));
-  B17:;
-  j0 = l29;
-  i0 = !(j0);
-  if (i0) {goto B18;}
-  j0 = l31;
-  call(heap_dealloc(m, last, j0));
-  B18:;
-  j0 = l24;
-  i0 = !(j0);
-  if (i0) {goto B19;}
-  j0 = l26;
-  call(heap_dealloc(m, last, j0));
-  B19:;
-  j0 = l20;
-  i0 = !(j0);
-  if (i0) {goto B20;}
-  j0 = l22;
-  call(heap_dealloc(m, last, j0));
-  B20:;
-  j0 = l16;
-  i0 = !(j0);
-  if (i0) {goto B21;}
-  j0 = l18;
-  call(heap_dealloc(m, last, j0));
-  B21:;
-  j0 = l12;
-  i0 = !(j0);
-  if (i0) {goto B22;}
-  j0 = l14;
-  call(heap_dealloc(m, last, j0));
-  B22:;
-  j0 = p0;
-  i0 = !(j0);
-  if (i0) {goto B23;}
-  j0 = l11;
-  call(heap_dealloc(m, last, j0));
-  B23:;
-  j0 = l7;
-  i0 = !(j0);
-  if (i0) {goto B24;}
-  j0 = l8;
-  call(heap_dealloc(m, last, j0));
-  B24:;
-  j0 = l5;
-  i0 = !(j0);
-  if (i0) {goto B0;}
-  j0 = l6;
-  call(heap_dealloc(m, last, j0));
-  goto B0;
-  B1:;
-  j0 = p1;
-  i0 = !(j0);
-  if (i0) {goto B25;}
-  j0 = l48;
-  l4 = j0;
-  L26:
-    j0 = l4;
-    j1 = 40ull;
-    j0 += j1;
-    i0 = (u32)(j0);
-    reach(a4, i0, -24, 24);
-    i64_load_at(j0, a4, 24);
-    l3 = j0;
-    j0 = l4;
-    j1 = 24ull;
-    j0 += j1;
-    i0 = (u32)(j0);
-    i64_load_at(j0, a4, 8);
-    l16 = j0;
-    j0 = l4;
-    j1 = 16ull;
-    j0 += j1;
-    i0 = (u32)(j0);
-    i64_load_at(j0, a4, 0);
-    i0 = !(j0);
-    if (i0) {goto B27;}
-    j0 = l4;
-    i0 = (u32)(j0);
-    i64_load(j0, i0, 0);
-    call(heap_dealloc(m, last, j0));
-    B27:;
-    j0 = l3;
-    i0 = !(j0);
-    if (i0) {goto B28;}
-    j0 = l16;
-    call(heap_dealloc(m, last, j0));
-    B28:;
-    j0 = l4;
-    j1 = 48ull;
-    j0 += j1;
-    l4 = j0;
-    j0 = p1;
-    j1 = 18446744073709551615ull;
-    j0 += j1;
-    p1 = j0;
-    j1 = 0ull;
-    i0 = j0 != j1;
-    if (i0) {goto L26;}
-  B25:;
-  j0 = l47;
-  i0 = !(j0);
-  if (i0) {goto B29;}
-  j0 = l48;
-  call(heap_dealloc(m, last, j0));
-  B29:;
-  j0 = l41;
-  i0 = !(j0);
-  if (i0) {goto B30;}
-  j0 = l43;
-  call(heap_dealloc(m, last, j0));
-  B30:;
-  j0 = l39;
-  i0 = !(j0);
-  if (i0) {goto B31;}
-  j0 = l40;
-  call(heap_dealloc(m, last, j0));
-  B31:;
-  j0 = l37;
-  i0 = !(j0);
-  if (i0) {goto B32;}
-  j0 = l38;
-  call(heap_dealloc(m, last, j0));
-  B32:;
-  j0 = l34;
-  i0 = !(j0);
-  if (i0) {goto B33;}
-  j0 = l36;
-  call(heap_dealloc(m, last, j0));
-  B33:;
-  j0 = l28;
-  i0 = !(j0);
-  if (i0) {goto B34;}
-  j0 = l30;
-  call(heap_dealloc(m, last, j0));
-  B34:;
-  j0 = l24;
-  i0 = !(j0);
-  if (i0) {goto B35;}
-  j0 = l26;
-  call(heap_dealloc(m, last, j0));
-  B35:;
   j0 = l21;
   i0 = !(j0);
-  if (i0) {goto B36;}
-  j0 = l23;
+  if (i0) {goto B5;}
+  j0 = l22;
   call(heap_dealloc(m, last, j0));
-  B36:;
-  j0 = l17;
+  B5:;
+  j0 = l20;
   i0 = !(j0);
-  if (i0) {goto B37;}
+  if (i0) {goto B6;}
+  j0 = l25;
+  call(heap_dealloc(m, last, j0));
+  B6:;
+  j0 = l18;
+  i0 = !(j0);
+  if (i0) {goto B7;}
   j0 = l19;
   call(heap_dealloc(m, last, j0));
-  B37:;
-  j0 = l13;
+  B7:;
+  j0 = l11;
   i0 = !(j0);
-  if (i0) {goto B38;}
+  if (i0) {goto B8;}
   j0 = l15;
-  call(heap_dealloc(m, last, j0));
-  B38:;
-  j0 = p0;
-  i0 = !(j0);
-  if (i0) {goto B39;}
-  j0 = l10;
-  l4 = j0;
-  L40:
-    j0 = l4;
-    j1 = 16ull;
-    j0 += j1;
-    i0 = (u32)(j0);
-    i64_load(j0, i0, 0);
-    i0 = !(j0);
-    if (i0) {goto B41;}
-    j0 = l4;
-    i0 = (u32)(j0);
-    i64_load(j0, i0, 0);
-    call(heap_dealloc(m, last, j0));
-    B41:;
-    j0 = l4;
-    j1 = 24ull;
-    j0 += j1;
-    l4 = j0;
-    j0 = p0;
-    j1 = 18446744073709551615ull;
-    j0 += j1;
-    p0 = j0;
-    j1 = 0ull;
-    i0 = j0 != j1;
-    if (i0) {goto L40;}
-  B39:;
-  j0 = l9;
-  i0 = !(j0);
-  if (i0) {goto B0;}
-  j0 = l10;
-  call(heap_dealloc(m, last, j0));
-  B0:;
-  j0 = l2;
-  j1 = 48ull;
-  j0 += j1;
-  set_stack(j0);
-  return;
-  trap:
-  set_broken(m);
-  return;
-}
-
-static void code_f5(uint8_t *const m, const u32 last, u64 p0) {
-  u64 l1 = 0, l2 = 0, l3 = 0, l4 = 0, l5 = 0, l6 = 0, l7 = 0;
-  u32 i0, i1, i2, i4;
-  u64 j0, j1, j2, j3, j4, j5;
-  uint8_t *a0;
-  j0 = p0;
-  i0 = (u32)(j0);
-  reach(a0, i0, 0, 16);
-  i64_load_at(j0, a0, 0);
-  l1 = j0;
-  j0 = p0;
-  i0 = (u32)(j0);
-  i64_load_at(j0, a0, 16);
-  l2 = j0;
-  i0 = !(j0);
-  if (i0) {goto B0;}
-  j0 = p0;
-  i0 = (u32)(j0);
-  i64_load_at(j0, a0, 8);
-  l3 = j0;
-  j1 = p0;
-  i1 = (u32)(j1);
-  i64_load(j1, i1, 24);
-  p0 = j1;
+  j1 = l14;
   j2 = 0ull;
-  j3 = l3;
-  j4 = p0;
-  j5 = l3;
+  j3 = l15;
+  j4 = l14;
+  j5 = l15;
   i4 = j4 < j5;
   j2 = i4 ? j2 : j3;
-  l4 = j2;
+  l21 = j2;
   j1 -= j2;
-  l5 = j1;
+  p0 = j1;
   j0 -= j1;
-  l6 = j0;
-  j1 = l2;
-  j2 = l6;
-  j3 = l2;
+  l18 = j0;
+  j1 = l11;
+  j2 = l18;
+  j3 = l11;
   i2 = j2 < j3;
   j0 = i2 ? j0 : j1;
-  l7 = j0;
-  j0 = l3;
-  j1 = l5;
-  i0 = j0 == j1;
-  if (i0) {goto B1;}
-  j0 = l1;
+  l19 = j0;
+  j0 = l15;
   j1 = p0;
+  i0 = j0 == j1;
+  if (i0) {goto B9;}
+  j0 = l16;
+  j1 = l14;
   j2 = 5ull;
   j1 <<= (j2 & 63);
-  j2 = l4;
+  j2 = l21;
   j3 = 5ull;
   j2 <<= (j3 & 63);
   j1 -= j2;
   j0 += j1;
   p0 = j0;
-  j0 = l7;
-  l3 = j0;
-  L2:
+  j0 = l19;
+  l21 = j0;
+  L10:
     j0 = p0;
     j1 = 16ull;
     j0 += j1;
     i0 = (u32)(j0);
     i64_load(j0, i0, 0);
     i0 = !(j0);
-    if (i0) {goto B3;}
+    if (i0) {goto B11;}
     j0 = p0;
     i0 = (u32)(j0);
     i64_load(j0, i0, 0);
     call(heap_dealloc(m, last, j0));
-    B3:;
+    B11:;
     j0 = p0;
     j1 = 32ull;
     j0 += j1;
     p0 = j0;
-    j0 = l3;
+    j0 = l21;
     j1 = 18446744073709551615ull;
     j0 += j1;
-    l3 = j0;
+    l21 = j0;
     j1 = 0ull;
     i0 = j0 != j1;
-    if (i0) {goto L2;}
-  B1:;
-  j0 = l2;
-  j1 = l6;
+    if (i0) {goto L10;}
+  B9:;
+  j0 = l11;
+  j1 = l18;
   i0 = j0 <= j1;
+  if (i0) {goto B8;}
+  j0 = l11;
+  j1 = l19;
+  j0 -= j1;
+  l21 = j0;
+  j0 = l16;
+  p0 = j0;
+  L12:
+    j0 = p0;
+    j1 = 16ull;
+    j0 += j1;
+    i0 = (u32)(j0);
+    i64_load(j0, i0, 0);
+    i0 = !(j0);
+    if (i0) {goto B13;}
+    j0 = p0;
+    i0 = (u32)(j0);
+    i64_load(j0, i0, 0);
+    call(heap_dealloc(m, last, j0));
+    B13:;
+    j0 = p0;
+    j1 = 32ull;
+    j0 += j1;
+    p0 = j0;
+    j0 = l21;
+    j1 = 18446744073709551615ull;
+    j0 += j1;
+    l21 = j0;
+    j1 = 0ull;
+    i0 = j0 != j1;
+    if (i0) {goto L12;}
+  B8:;
+  j0 = l16;
+  call(heap_dealloc(m, last, j0));
+  j0 = l13;
+  i0 = !(j0);
+  if (i0) {goto B14;}
+  j0 = l12;
+  call(heap_dealloc(m, last, j0));
+  B14:;
+  j0 = l17;
+  i0 = !(j0);
+  if (i0) {goto B15;}
+  j0 = l26;
+  call(heap_dealloc(m, last, j0));
+  B15:;
+  j0 = l9;
+  i0 = !(j0);
+  if (i0) {goto B16;}
+  j0 = l10;
+  call(heap_dealloc(m, last, j0));
+  B16:;
+  j0 = l7;
+  i0 = !(j0);
+  if (i0) {goto B17;}
+  j0 = l8;
+  call(heap_dealloc(m, last, j0));
+  B17:;
+  j0 = l5;
+  i0 = !(j0);
+  if (i0) {goto B18;}
+  j0 = l6;
+  call(heap_dealloc(m, last, j0));
+  B18:;
+  j0 = l3;
+  i0 = !(j0);
+  if (i0) {goto B19;}
+  j0 = l4;
+  call(heap_dealloc(m, last, j0));
+  B19:;
+  j0 = l1;
+  i0 = !(j0);
   if (i0) {goto B0;}
   j0 = l2;
-  j1 = l7;
-  j0 -= j1;
+  call(heap_dealloc(m, last, j0));
+  goto Bfunc;
+  B2:;
+  j0 = p0;
+  i0 = (u32)(j0);
+  i64_load(j0, i0, 456);
+  l16 = j0;
+  j0 = p0;
+  i0 = (u32)(j0);
+  i64_load_at(j0, a0, 120);
+  l24 = j0;
+  j0 = p0;
+  i0 = (u32)(j0);
+  i64_load_at(j0, a0, 104);
+  l5 = j0;
+  j0 = p0;
+  i0 = (u32)(j0);
+  i64_load_at(j0, a1, 216);
+  l23 = j0;
+  j0 = p0;
+  i0 = (u32)(j0);
+  i64_load_at(j0, a1, 200);
+  l13 = j0;
+  j0 = p0;
+  i0 = (u32)(j0);
+  i64_load_at(j0, a0, 88);
+  p0 = j0;
+  j0 = l21;
+  i0 = !(j0);
+  if (i0) {goto B20;}
+  j0 = l22;
+  call(heap_dealloc(m, last, j0));
+  B20:;
+  j0 = l19;
+  i0 = !(j0);
+  if (i0) {goto B21;}
+  j0 = l20;
+  call(heap_dealloc(m, last, j0));
+  B21:;
+  j0 = l17;
+  i0 = !(j0);
+  if (i0) {goto B22;}
+  j0 = l18;
+  call(heap_dealloc(m, last, j0));
+  B22:;
+  j0 = l14;
+  i0 = !(j0);
+  if (i0) {goto B23;}
+  j0 = l15;
+  call(heap_dealloc(m, last, j0));
+  B23:;
+  j0 = l23;
+  i0 = !(j0);
+  if (i0) {goto B24;}
+  j0 = l13;
+  call(heap_dealloc(m, last, j0));
+  B24:;
+  j0 = l11;
+  i0 = !(j0);
+  if (i0) {goto B25;}
+  j0 = l12;
+  call(heap_dealloc(m, last, j0));
+  B25:;
+  j0 = l9;
+  i0 = !(j0);
+  if (i0) {goto B26;}
+  j0 = l10;
+  call(heap_dealloc(m, last, j0));
+  B26:;
+  j0 = l7;
+  i0 = !(j0);
+  if (i0) {goto B27;}
+  j0 = l8;
+  call(heap_dealloc(m, last, j0));
+  B27:;
+  j0 = l5;
+  i0 = !(j0);
+  if (i0) {goto B28;}
+  j0 = p0;
+  call(heap_dealloc(m, last, j0));
+  B28:;
+  j0 = l4;
+  i0 = !(j0);
+  if (i0) {goto B29;}
+  j0 = l24;
+  call(heap_dealloc(m, last, j0));
+  B29:;
+  j0 = l2;
+  i0 = !(j0);
+  if (i0) {goto B30;}
+  j0 = l3;
+  call(heap_dealloc(m, last, j0));
+  B30:;
+  j0 = l16;
+  i0 = !(j0);
+  if (i0) {goto B0;}
+  j0 = l1;
+  call(heap_dealloc(m, last, j0));
+  goto Bfunc;
+  B1:;
+  j0 = p0;
+  i0 = (u32)(j0);
+  i64_load_at(j0, a0, 144);
+  l2 = j0;
+  j0 = p0;
+  i0 = (u32)(j0);
+  i64_load_at(j0, a0, 64);
   l3 = j0;
+  j0 = p0;
+  i0 = (u32)(j0);
+  i64_load_at(j0, a0, 32);
+  l20 = j0;
+  j0 = p0;
+  i0 = (u32)(j0);
+  i64_load_at(j0, a0, 16);
+  l22 = j0;
+  j0 = p0;
+  i0 = (u32)(j0);
+  i64_load_at(j0, a1, 224);
+  l8 = j0;
+  j0 = p0;
+  i0 = (u32)(j0);
+  i64_load_at(j0, a1, 96);
+  l10 = j0;
+  j0 = p0;
+  i0 = (u32)(j0);
+  i64_load_at(j0, a1, 80);
+  l25 = j0;
+  j0 = p0;
+  i0 = (u32)(j0);
+  i64_load_at(j0, a0, 48);
+  l26 = j0;
+  j0 = p0;
+  i0 = (u32)(j0);
+  i64_load_at(j0, a0, 128);
+  l1 = j0;
+  j0 = p0;
+  i0 = (u32)(j0);
+  i64_load_at(j0, a1, 16);
+  l21 = j0;
+  i0 = !(j0);
+  if (i0) {goto B31;}
+  j0 = l24;
+  p0 = j0;
+  L32:
+    j0 = p0;
+    j1 = 40ull;
+    j0 += j1;
+    i0 = (u32)(j0);
+    reach(a2, i0, -24, 24);
+    i64_load_at(j0, a2, 24);
+    l7 = j0;
+    j0 = p0;
+    j1 = 24ull;
+    j0 += j1;
+    i0 = (u32)(j0);
+    i64_load_at(j0, a2, 8);
+    l9 = j0;
+    j0 = p0;
+    j1 = 16ull;
+    j0 += j1;
+    i0 = (u32)(j0);
+    i64_load_at(j0, a2, 0);
+    i0 = !(j0);
+    if (i0) {goto B33;}
+    j0 = p0;
+    i0 = (u32)(j0);
+    i64_load(j0, i0, 0);
+    call(heap_dealloc(m, last, j0));
+    B33:;
+    j0 = l7;
+    i0 = !(j0);
+    if (i0) {goto B34;}
+    j0 = l9;
+    call(heap_dealloc(m, last, j0));
+    B34:;
+    j0 = p0;
+    j1 = 48ull;
+    j0 += j1;
+    p0 = j0;
+    j0 = l21;
+    j1 = 18446744073709551615ull;
+    j0 += j1;
+    l21 = j0;
+    j1 = 0ull;
+    i0 = j0 != j1;
+    if (i0) {goto L32;}
+  B31:;
+  j0 = l23;
+  i0 = !(j0);
+  if (i0) {goto B35;}
+  j0 = l24;
+  call(heap_dealloc(m, last, j0));
+  B35:;
+  j0 = l10;
+  i0 = !(j0);
+  if (i0) {goto B36;}
+  j0 = l25;
+  call(heap_dealloc(m, last, j0));
+  B36:;
+  j0 = l18;
+  i0 = !(j0);
+  if (i0) {goto B37;}
+  j0 = l19;
+  call(heap_dealloc(m, last, j0));
+  B37:;
+  j0 = l16;
+  i0 = !(j0);
+  if (i0) {goto B38;}
+  j0 = l17;
+  call(heap_dealloc(m, last, j0));
+  B38:;
+  j0 = l14;
+  i0 = !(j0);
+  if (i0) {goto B39;}
+  j0 = l15;
+  call(heap_dealloc(m, last, j0));
+  B39:;
+  j0 = l8;
+  i0 = !(j0);
+  if (i0) {goto B40;}
+  j0 = l13;
+  call(heap_dealloc(m, last, j0));
+  B40:;
+  j0 = l11;
+  i0 = !(j0);
+  if (i0) {goto B41;}
+  j0 = l12;
+  call(heap_dealloc(m, last, j0));
+  B41:;
+  j0 = l20;
+  i0 = !(j0);
+  if (i0) {goto B42;}
+  j0 = l22;
+  call(heap_dealloc(m, last, j0));
+  B42:;
+  j0 = l3;
+  i0 = !(j0);
+  if (i0) {goto B43;}
+  j0 = l26;
+  call(heap_dealloc(m, last, j0));
+  B43:;
+  j0 = l5;
+  i0 = !(j0);
+  if (i0) {goto B44;}
+  j0 = l6;
+  call(heap_dealloc(m, last, j0));
+  B44:;
+  j0 = l4;
+  i0 = !(j0);
+  if (i0) {goto B45;}
   j0 = l1;
   p0 = j0;
-  L4:
+  L46:
     j0 = p0;
     j1 = 16ull;
     j0 += j1;
     i0 = (u32)(j0);
     i64_load(j0, i0, 0);
     i0 = !(j0);
-    if (i0) {goto B5;}
+    if (i0) {goto B47;}
     j0 = p0;
     i0 = (u32)(j0);
     i64_load(j0, i0, 0);
     call(heap_dealloc(m, last, j0));
-    B5:;
+    B47:;
     j0 = p0;
-    j1 = 32ull;
+    j1 = 24ull;
     j0 += j1;
     p0 = j0;
-    j0 = l3;
+    j0 = l4;
     j1 = 18446744073709551615ull;
     j0 += j1;
-    l3 = j0;
+    l4 = j0;
     j1 = 0ull;
     i0 = j0 != j1;
-    if (i0) {goto L4;}
-  B0:;
+    if (i0) {goto L46;}
+  B45:;
+  j0 = l2;
+  i0 = !(j0);
+  if (i0) {goto B0;}
   j0 = l1;
   call(heap_dealloc(m, last, j0));
+  B0:;
+  Bfunc:;
   return;
   trap:
   set_broken(m);
   return;
 }
 
-static u32 code_f6(uint8_t *const m, const u32 last, u64 p0, u64 p1, u64 p2) {
+static u32 code_f5(uint8_t *const m, const u32 last, u64 p0, u64 p1, u64 p2) {
   u32 l10 = 0;
   u64 l3 = 0, l4 = 0, l5 = 0, l6 = 0, l7 = 0, l8 = 0, l9 = 0;
   u32 i0, i1, i2, i3, i4, i5, i6;
@@ -3295,7 +3210,7 @@ static u32 code_f6(uint8_t *const m, const u32 last, u64 p0, u64 p1, u64 p2) {
   return 0;
 }
 
-static u32 code_f7(uint8_t *const m, const u32 last, u64 p0, u64 p1, u64 p2) {
+static u32 code_f6(uint8_t *const m, const u32 last, u64 p0, u64 p1, u64 p2) {
   u32 l3 = 0, l4 = 0;
   u64 l5 = 0, l6 = 0, l7 = 0, l8 = 0, l9 = 0, l10 = 0, l11 = 0, l12 = 0;
   u32 i0, i1, i2, i3;
@@ -3614,7 +3529,7 @@ static u32 code_f7(uint8_t *const m, const u32 last, u64 p0, u64 p1, u64 p2) {
   return 0;
 }
 
-static void code_f8(uint8_t *const m, const u32 last, u64 p0) {
+static void code_f7(uint8_t *const m, const u32 last, u64 p0) {
   u64 l1 = 0, l2 = 0, l3 = 0, l4 = 0;
   u32 i0, i1, i2, i3, i4;
   u64 j0, j1, j2, j3, j4, j5;
@@ -3711,7 +3626,7 @@ static void code_f8(uint8_t *const m, const u32 last, u64 p0) {
   j2 = l1;
   j3 = 8ull;
   j2 += j3;
-  call(code_f9(m, last, j0, j1, j2));
+  call(code_f8(m, last, j0, j1, j2));
   j0 = l1;
   i0 = (u32)(j0);
   i32_load8_u_at(i0, frame, 40);
@@ -3754,7 +3669,7 @@ static void code_f8(uint8_t *const m, const u32 last, u64 p0) {
   return;
 }
 
-static void code_f9(uint8_t *const m, const u32 last, u64 p0, u64 p1, u64 p2) {
+static void code_f8(uint8_t *const m, const u32 last, u64 p0, u64 p1, u64 p2) {
   u64 l3 = 0, l4 = 0, l5 = 0, l6 = 0, l7 = 0, l8 = 0, l9 = 0, l10 = 0, l11 = 0, l12 = 0, l13 = 0;
   u32 i0, i1, i4;
   u64 j0, j1, j2, j3, j4, j5;
@@ -4134,7 +4049,7 @@ static void code_f9(uint8_t *const m, const u32 last, u64 p0, u64 p1, u64 p2) {
   return;
 }
 
-static void code_f10(uint8_t *const m, const u32 last, u64 p0, u64 p1, u64 p2, u64 p3) {
+static void code_f9(uint8_t *const m, const u32 last, u64 p0, u64 p1, u64 p2, u64 p3) {
   u64 l4 = 0, l5 = 0, l6 = 0, l7 = 0;
   u32 i0, i1, i2;
   u64 j0, j1, j2;
@@ -4295,7 +4210,7 @@ static void code_f10(uint8_t *const m, const u32 last, u64 p0, u64 p1, u64 p2, u
   return;
 }
 
-static void code_f11(uint8_t *const m, const u32 last, u64 p0, u64 p1, u64 p2) {
+static void code_f10(uint8_t *const m, const u32 last, u64 p0, u64 p1, u64 p2) {
   u32 l9 = 0, l10 = 0, l11 = 0;
   u64 l3 = 0, l4 = 0, l5 = 0, l6 = 0, l7 = 0, l8 = 0;
   u32 i0, i1, i2, i3, i4, i5;
@@ -4350,7 +4265,7 @@ static void code_f11(uint8_t *const m, const u32 last, u64 p0, u64 p1, u64 p2) {
     j0 = l3;
     j1 = l4;
     j2 = p2;
-    call(j0 = code_f12(m, last, j0, j1, j2));
+    call(j0 = code_f11(m, last, j0, j1, j2));
     l4 = j0;
     goto B3;
     B7:;
@@ -4637,7 +4552,7 @@ static void code_f11(uint8_t *const m, const u32 last, u64 p0, u64 p1, u64 p2) {
   return;
 }
 
-static u64 code_f12(uint8_t *const m, const u32 last, u64 p0, u64 p1, u64 p2) {
+static u64 code_f11(uint8_t *const m, const u32 last, u64 p0, u64 p1, u64 p2) {
   u64 l3 = 0, l4 = 0;
   u32 i0, i1, i2;
   u64 j0, j1, j2, j3;
@@ -4750,7 +4665,7 @@ static u64 code_f12(uint8_t *const m, const u32 last, u64 p0, u64 p1, u64 p2) {
     j3 = 32ull;
     j2 += j3;
     j3 = p2;
-    call(j1 = code_f13(m, last, j1, j2, j3));
+    call(j1 = code_f12(m, last, j1, j2, j3));
     l3 = j1;
     j0 -= j1;
     j1 = 31ull;
@@ -4834,7 +4749,7 @@ static u64 code_f12(uint8_t *const m, const u32 last, u64 p0, u64 p1, u64 p2) {
   return 0;
 }
 
-static u64 code_f13(uint8_t *const m, const u32 last, u64 p0, u64 p1, u64 p2) {
+static u64 code_f12(uint8_t *const m, const u32 last, u64 p0, u64 p1, u64 p2) {
   u64 l3 = 0;
   u32 i0, i1;
   u64 j0, j1, j2;
@@ -4924,7 +4839,7 @@ static u64 code_f13(uint8_t *const m, const u32 last, u64 p0, u64 p1, u64 p2) {
   return 0;
 }
 
-static u32 code_f14(uint8_t *const m, const u32 last, u64 p0, u64 p1, u64 p2, u64 p3, u64 p4) {
+static u32 code_f13(uint8_t *const m, const u32 last, u64 p0, u64 p1, u64 p2, u64 p3, u64 p4) {
   u32 l13 = 0, l14 = 0, l15 = 0;
   u64 l5 = 0, l6 = 0, l7 = 0, l8 = 0, l9 = 0, l10 = 0, l11 = 0, l12 = 0;
   u32 i0, i1;
@@ -5202,7 +5117,7 @@ static u32 code_f14(uint8_t *const m, const u32 last, u64 p0, u64 p1, u64 p2, u6
   i0 = j0 != j1;
   if (i0) {goto B12;}
   j0 = p0;
-  call(i0 = code_f15(m, last, j0));
+  call(i0 = code_f14(m, last, j0));
   i0 = !(i0);
   if (i0) {goto B6;}
   j0 = p0;
@@ -5285,7 +5200,7 @@ static u32 code_f14(uint8_t *const m, const u32 last, u64 p0, u64 p1, u64 p2, u6
   return 0;
 }
 
-static u32 code_f15(uint8_t *const m, const u32 last, u64 p0) {
+static u32 code_f14(uint8_t *const m, const u32 last, u64 p0) {
   u32 l6 = 0;
   u64 l1 = 0, l2 = 0, l3 = 0, l4 = 0, l5 = 0;
   u32 i0, i1, i2;
@@ -5412,7 +5327,7 @@ static u32 code_f15(uint8_t *const m, const u32 last, u64 p0) {
   return 0;
 }
 
-static void code_f16(uint8_t *const m, const u32 last, u64 p0, u64 p1, u64 p2, u64 p3, u64 p4) {
+static void code_f15(uint8_t *const m, const u32 last, u64 p0, u64 p1, u64 p2, u64 p3, u64 p4) {
   u32 l20 = 0, l21 = 0, l22 = 0, l23 = 0, l24 = 0, l25 = 0, l26 = 0, l27 = 0;
   u64 l5 = 0, l6 = 0, l7 = 0, l8 = 0, l9 = 0, l10 = 0, l11 = 0, l12 = 0, l13 = 0, l14 = 0, l15 = 0, l16 = 0, l17 = 0, l18 = 0, l19 = 0;
   u32 i0, i1, i2, i3, i4, i5;
@@ -5533,7 +5448,7 @@ static void code_f16(uint8_t *const m, const u32 last, u64 p0, u64 p1, u64 p2, u
   j0 = l10;
   j1 = l9;
   j2 = l8;
-  call(i0 = code_f6(m, last, j0, j1, j2));
+  call(i0 = code_f5(m, last, j0, j1, j2));
   if (i0) {goto B2;}
   goto B1;
   B3:;
@@ -5842,7 +5757,7 @@ static void code_f16(uint8_t *const m, const u32 last, u64 p0, u64 p1, u64 p2, u
   j0 = p3;
   j1 = p4;
   i2 = 0u;
-  call(j0 = code_f17(m, last, j0, j1, i2));
+  call(j0 = code_f16(m, last, j0, j1, i2));
   l7 = j0;
   B18:;
   j0 = l7;
@@ -5920,7 +5835,7 @@ static void code_f16(uint8_t *const m, const u32 last, u64 p0, u64 p1, u64 p2, u
   j0 += j1;
   j1 = l5;
   j2 = l10;
-  call(code_f18(m, last, j0, j1, j2));
+  call(code_f17(m, last, j0, j1, j2));
   j0 = l5;
   i0 = (u32)(j0);
   i32_load8_u_at(i0, frame, 128);
@@ -6110,7 +6025,7 @@ static void code_f16(uint8_t *const m, const u32 last, u64 p0, u64 p1, u64 p2, u
   i2 = l21;
   i3 = 7u;
   i2 &= i3;
-  call(j0 = code_f17(m, last, j0, j1, i2));
+  call(j0 = code_f16(m, last, j0, j1, i2));
   l7 = j0;
   goto B29;
   B30:;
@@ -6269,7 +6184,7 @@ static void code_f16(uint8_t *const m, const u32 last, u64 p0, u64 p1, u64 p2, u
     i2 = l21;
     i3 = 7u;
     i2 &= i3;
-    call(j0 = code_f17(m, last, j0, j1, i2));
+    call(j0 = code_f16(m, last, j0, j1, i2));
     l9 = j0;
     goto B38;
     B39:;
@@ -6327,7 +6242,7 @@ static void code_f16(uint8_t *const m, const u32 last, u64 p0, u64 p1, u64 p2, u
     B41:;
     j0 = l9;
     j1 = l7;
-    call(j0 = code_f19(m, last, j0, j1));
+    call(j0 = code_f18(m, last, j0, j1));
     j1 = l7;
     j0 &= j1;
     l8 = j0;
@@ -6713,7 +6628,7 @@ static void code_f16(uint8_t *const m, const u32 last, u64 p0, u64 p1, u64 p2, u
   j6 = l11;
   j7 = l15;
   j8 = l13;
-  call(code_f20(m, last, j0, j1, j2, i3, j4, i5, j6, j7, j8));
+  call(code_f19(m, last, j0, j1, j2, i3, j4, i5, j6, j7, j8));
   goto B65;
   B66:;
   j0 = l5;
@@ -6726,7 +6641,7 @@ static void code_f16(uint8_t *const m, const u32 last, u64 p0, u64 p1, u64 p2, u
   i5 = l26;
   j6 = l11;
   j7 = l13;
-  call(code_f21(m, last, j0, j1, j2, i3, j4, i5, j6, j7));
+  call(code_f20(m, last, j0, j1, j2, i3, j4, i5, j6, j7));
   B65:;
   j0 = l5;
   i0 = (u32)(j0);
@@ -6815,7 +6730,7 @@ static void code_f16(uint8_t *const m, const u32 last, u64 p0, u64 p1, u64 p2, u
   j3 += j4;
   i3 = (u32)(j3);
   i64_load_at(j3, a13, 8);
-  call(code_f10(m, last, j0, j1, j2, j3));
+  call(code_f9(m, last, j0, j1, j2, j3));
   j0 = l5;
   i0 = (u32)(j0);
   i1 = 0u;
@@ -6863,10 +6778,10 @@ static void code_f16(uint8_t *const m, const u32 last, u64 p0, u64 p1, u64 p2, u
   j3 += j4;
   i3 = (u32)(j3);
   i64_load_at(j3, a15, 8);
-  call(code_f10(m, last, j0, j1, j2, j3));
+  call(code_f9(m, last, j0, j1, j2, j3));
   j0 = l10;
   j1 = l7;
-  call(code_f22(m, last, j0, j1));
+  call(code_f21(m, last, j0, j1));
   j0 = l5;
   j1 = 128ull;
   j0 += j1;
@@ -6883,7 +6798,7 @@ static void code_f16(uint8_t *const m, const u32 last, u64 p0, u64 p1, u64 p2, u
   j5 += j6;
   i5 = (u32)(j5);
   i64_load_at(j5, a14, 72);
-  call(code_f23(m, last, j0, j1, j2, j3, j4, j5));
+  call(code_f22(m, last, j0, j1, j2, j3, j4, j5));
   goto B69;
   B70:;
   j0 = l5;
@@ -6903,7 +6818,7 @@ static void code_f16(uint8_t *const m, const u32 last, u64 p0, u64 p1, u64 p2, u
   j5 += j6;
   i5 = (u32)(j5);
   i64_load_at(j5, a16, 8);
-  call(code_f23(m, last, j0, j1, j2, j3, j4, j5));
+  call(code_f22(m, last, j0, j1, j2, j3, j4, j5));
   B69:;
   j0 = l5;
   i0 = (u32)(j0);
@@ -6919,7 +6834,7 @@ static void code_f16(uint8_t *const m, const u32 last, u64 p0, u64 p1, u64 p2, u
   j2 = l10;
   j3 = l7;
   j4 = l13;
-  call(code_f24(m, last, j0, j1, j2, j3, j4));
+  call(code_f23(m, last, j0, j1, j2, j3, j4));
   j0 = l5;
   i0 = (u32)(j0);
   i32_load8_u_at(i0, frame, 48);
@@ -6972,7 +6887,7 @@ static void code_f16(uint8_t *const m, const u32 last, u64 p0, u64 p1, u64 p2, u
   j6 = l11;
   j7 = l15;
   j8 = l13;
-  call(code_f20(m, last, j0, j1, j2, i3, j4, i5, j6, j7, j8));
+  call(code_f19(m, last, j0, j1, j2, i3, j4, i5, j6, j7, j8));
   goto B56;
   B71:;
   j0 = l5;
@@ -6985,7 +6900,7 @@ static void code_f16(uint8_t *const m, const u32 last, u64 p0, u64 p1, u64 p2, u
   i5 = l26;
   j6 = l11;
   j7 = l13;
-  call(code_f21(m, last, j0, j1, j2, i3, j4, i5, j6, j7));
+  call(code_f20(m, last, j0, j1, j2, i3, j4, i5, j6, j7));
   goto B56;
   B59:;
   j0 = p1;
@@ -7569,7 +7484,7 @@ static void code_f16(uint8_t *const m, const u32 last, u64 p0, u64 p1, u64 p2, u
   j3 += j4;
   i3 = (u32)(j3);
   i64_load_at(j3, a30, 8);
-  call(code_f10(m, last, j0, j1, j2, j3));
+  call(code_f9(m, last, j0, j1, j2, j3));
   j0 = l5;
   i0 = (u32)(j0);
   i1 = 0u;
@@ -7616,10 +7531,10 @@ static void code_f16(uint8_t *const m, const u32 last, u64 p0, u64 p1, u64 p2, u
   j3 += j4;
   i3 = (u32)(j3);
   i64_load_at(j3, a17, 248);
-  call(code_f10(m, last, j0, j1, j2, j3));
+  call(code_f9(m, last, j0, j1, j2, j3));
   j0 = l10;
   j1 = l7;
-  call(code_f22(m, last, j0, j1));
+  call(code_f21(m, last, j0, j1));
   j0 = l5;
   j1 = 128ull;
   j0 += j1;
@@ -7636,7 +7551,7 @@ static void code_f16(uint8_t *const m, const u32 last, u64 p0, u64 p1, u64 p2, u
   j5 += j6;
   i5 = (u32)(j5);
   i64_load_at(j5, a31, 72);
-  call(code_f23(m, last, j0, j1, j2, j3, j4, j5));
+  call(code_f22(m, last, j0, j1, j2, j3, j4, j5));
   goto B89;
   B90:;
   j0 = l5;
@@ -7656,7 +7571,7 @@ static void code_f16(uint8_t *const m, const u32 last, u64 p0, u64 p1, u64 p2, u
   j5 += j6;
   i5 = (u32)(j5);
   i64_load_at(j5, a32, 8);
-  call(code_f23(m, last, j0, j1, j2, j3, j4, j5));
+  call(code_f22(m, last, j0, j1, j2, j3, j4, j5));
   B89:;
   j0 = l5;
   i0 = (u32)(j0);
@@ -7671,7 +7586,7 @@ static void code_f16(uint8_t *const m, const u32 last, u64 p0, u64 p1, u64 p2, u
   j2 = l10;
   j3 = l17;
   j4 = l13;
-  call(code_f24(m, last, j0, j1, j2, j3, j4));
+  call(code_f23(m, last, j0, j1, j2, j3, j4));
   j0 = l5;
   i0 = (u32)(j0);
   i32_load8_u_at(i0, frame, 48);
@@ -7730,7 +7645,7 @@ static void code_f16(uint8_t *const m, const u32 last, u64 p0, u64 p1, u64 p2, u
   j6 = l11;
   j7 = l15;
   j8 = l13;
-  call(code_f20(m, last, j0, j1, j2, i3, j4, i5, j6, j7, j8));
+  call(code_f19(m, last, j0, j1, j2, i3, j4, i5, j6, j7, j8));
   goto B56;
   B91:;
   j0 = l5;
@@ -7743,7 +7658,7 @@ static void code_f16(uint8_t *const m, const u32 last, u64 p0, u64 p1, u64 p2, u
   i5 = l26;
   j6 = l11;
   j7 = l13;
-  call(code_f21(m, last, j0, j1, j2, i3, j4, i5, j6, j7));
+  call(code_f20(m, last, j0, j1, j2, i3, j4, i5, j6, j7));
   B56:;
   j0 = l5;
   i0 = (u32)(j0);
@@ -7856,7 +7771,7 @@ static void code_f16(uint8_t *const m, const u32 last, u64 p0, u64 p1, u64 p2, u
   i2 = l21;
   i3 = 7u;
   i2 &= i3;
-  call(j0 = code_f17(m, last, j0, j1, i2));
+  call(j0 = code_f16(m, last, j0, j1, i2));
   l7 = j0;
   goto B96;
   B97:;
@@ -8802,7 +8717,7 @@ static void code_f16(uint8_t *const m, const u32 last, u64 p0, u64 p1, u64 p2, u
   return;
 }
 
-static u64 code_f17(uint8_t *const m, const u32 last, u64 p0, u64 p1, u32 p2) {
+static u64 code_f16(uint8_t *const m, const u32 last, u64 p0, u64 p1, u32 p2) {
   u64 l3 = 0, l4 = 0, l5 = 0, l6 = 0, l7 = 0;
   u32 i0, i1, i2, i3;
   u64 j0, j1, j2;
@@ -8990,7 +8905,7 @@ static u64 code_f17(uint8_t *const m, const u32 last, u64 p0, u64 p1, u32 p2) {
   return 0;
 }
 
-static void code_f18(uint8_t *const m, const u32 last, u64 p0, u64 p1, u64 p2) {
+static void code_f17(uint8_t *const m, const u32 last, u64 p0, u64 p1, u64 p2) {
   u32 l7 = 0, l8 = 0, l9 = 0, l10 = 0, l11 = 0, l12 = 0;
   u64 l3 = 0, l4 = 0, l5 = 0, l6 = 0;
   u32 i0, i1, i2, i3, i4;
@@ -9107,7 +9022,7 @@ static void code_f18(uint8_t *const m, const u32 last, u64 p0, u64 p1, u64 p2) {
     i2 = l8;
     i3 = 7u;
     i2 &= i3;
-    call(j0 = code_f17(m, last, j0, j1, i2));
+    call(j0 = code_f16(m, last, j0, j1, i2));
     l4 = j0;
     goto B5;
     B6:;
@@ -9299,7 +9214,7 @@ static void code_f18(uint8_t *const m, const u32 last, u64 p0, u64 p1, u64 p2) {
     j0 = l3;
     j1 = p1;
     i2 = l7;
-    call(code_f25(m, last, j0, j1, i2));
+    call(code_f24(m, last, j0, j1, i2));
     j0 = l3;
     i0 = (u32)(j0);
     i32_load_at(i0, frame, 8);
@@ -9387,7 +9302,7 @@ static void code_f18(uint8_t *const m, const u32 last, u64 p0, u64 p1, u64 p2) {
   return;
 }
 
-static u64 code_f19(uint8_t *const m, const u32 last, u64 p0, u64 p1) {
+static u64 code_f18(uint8_t *const m, const u32 last, u64 p0, u64 p1) {
   u64 l2 = 0, l3 = 0, l4 = 0, l5 = 0, l6 = 0, l7 = 0;
   u32 i0;
   u64 j0, j1, j2, j3, j4, j5, j6, j7;
@@ -9399,7 +9314,7 @@ static u64 code_f19(uint8_t *const m, const u32 last, u64 p0, u64 p1) {
   j1 = 8ull;
   j0 += j1;
   j1 = p1;
-  call(code_f26(m, last, j0, j1));
+  call(code_f25(m, last, j0, j1));
   j0 = l2;
   i0 = (u32)(j0);
   i64_load_at(j0, frame, 8);
@@ -9410,7 +9325,7 @@ static u64 code_f19(uint8_t *const m, const u32 last, u64 p0, u64 p1) {
   j1 = 8ull;
   j0 += j1;
   j1 = p1;
-  call(code_f27(m, last, j0, j1));
+  call(code_f26(m, last, j0, j1));
   B0:;
   j0 = l2;
   i0 = (u32)(j0);
@@ -9500,7 +9415,7 @@ static u64 code_f19(uint8_t *const m, const u32 last, u64 p0, u64 p1) {
   return 0;
 }
 
-static void code_f20(uint8_t *const m, const u32 last, u64 p0, u64 p1, u64 p2, u32 p3, u64 p4, u32 p5, u64 p6, u64 p7, u64 p8) {
+static void code_f19(uint8_t *const m, const u32 last, u64 p0, u64 p1, u64 p2, u32 p3, u64 p4, u32 p5, u64 p6, u64 p7, u64 p8) {
   u32 l16 = 0, l17 = 0, l18 = 0, l19 = 0, l20 = 0, l21 = 0;
   u64 l9 = 0, l10 = 0, l11 = 0, l12 = 0, l13 = 0, l14 = 0, l15 = 0;
   u32 i0, i1, i2, i3, i4;
@@ -9812,7 +9727,7 @@ static void code_f20(uint8_t *const m, const u32 last, u64 p0, u64 p1, u64 p2, u
     i2 = p3;
     i3 = 7u;
     i2 &= i3;
-    call(j0 = code_f17(m, last, j0, j1, i2));
+    call(j0 = code_f16(m, last, j0, j1, i2));
     l14 = j0;
     goto B17;
     B18:;
@@ -9931,7 +9846,7 @@ static void code_f20(uint8_t *const m, const u32 last, u64 p0, u64 p1, u64 p2, u
     i4 = p5;
     j5 = p6;
     j6 = p8;
-    call(code_f29(m, last, j0, j1, j2, j3, i4, j5, j6));
+    call(code_f28(m, last, j0, j1, j2, j3, i4, j5, j6));
     j0 = l9;
     i0 = (u32)(j0);
     i32_load8_u_at(i0, frame, 0);
@@ -10041,7 +9956,7 @@ static void code_f20(uint8_t *const m, const u32 last, u64 p0, u64 p1, u64 p2, u
     i2 = p3;
     i3 = 7u;
     i2 &= i3;
-    call(j0 = code_f17(m, last, j0, j1, i2));
+    call(j0 = code_f16(m, last, j0, j1, i2));
     l14 = j0;
     goto B23;
     B24:;
@@ -10284,7 +10199,7 @@ static void code_f20(uint8_t *const m, const u32 last, u64 p0, u64 p1, u64 p2, u
   j0 += j1;
   j1 = p1;
   j2 = l10;
-  call(code_f18(m, last, j0, j1, j2));
+  call(code_f17(m, last, j0, j1, j2));
   j0 = l9;
   i0 = (u32)(j0);
   i32_load8_u_at(i0, frame, 32);
@@ -10376,7 +10291,7 @@ static void code_f20(uint8_t *const m, const u32 last, u64 p0, u64 p1, u64 p2, u
   i4 = p5;
   j5 = p6;
   j6 = p8;
-  call(code_f29(m, last, j0, j1, j2, j3, i4, j5, j6));
+  call(code_f28(m, last, j0, j1, j2, j3, i4, j5, j6));
   j0 = l9;
   i0 = (u32)(j0);
   i32_load8_u_at(i0, frame, 16);
@@ -10473,7 +10388,7 @@ static void code_f20(uint8_t *const m, const u32 last, u64 p0, u64 p1, u64 p2, u
   return;
 }
 
-static void code_f21(uint8_t *const m, const u32 last, u64 p0, u64 p1, u64 p2, u32 p3, u64 p4, u32 p5, u64 p6, u64 p7) {
+static void code_f20(uint8_t *const m, const u32 last, u64 p0, u64 p1, u64 p2, u32 p3, u64 p4, u32 p5, u64 p6, u64 p7) {
   u32 l10 = 0, l11 = 0, l12 = 0;
   u64 l8 = 0, l9 = 0;
   u32 i0, i1, i2, i4;
@@ -10551,7 +10466,7 @@ static void code_f21(uint8_t *const m, const u32 last, u64 p0, u64 p1, u64 p2, u
   i4 = p5;
   j5 = p6;
   j6 = p7;
-  call(code_f30(m, last, j0, j1, j2, j3, i4, j5, j6));
+  call(code_f29(m, last, j0, j1, j2, j3, i4, j5, j6));
   j0 = l8;
   i0 = (u32)(j0);
   i32_load8_u_at(i0, frame, 0);
@@ -10594,7 +10509,7 @@ static void code_f21(uint8_t *const m, const u32 last, u64 p0, u64 p1, u64 p2, u
   i2 = (u32)(j2);
   reach(a3, i2, 0, 0);
   i32_load_at(i2, a3, 0);
-  call(code_f31(m, last, j0, j1, i2));
+  call(code_f30(m, last, j0, j1, i2));
   j0 = l8;
   i0 = (u32)(j0);
   i32_load8_u_at(i0, frame, 16);
@@ -10623,7 +10538,7 @@ static void code_f21(uint8_t *const m, const u32 last, u64 p0, u64 p1, u64 p2, u
   j0 = p1;
   j1 = p7;
   i2 = l11;
-  call(code_f32(m, last, j0, j1, i2));
+  call(code_f31(m, last, j0, j1, i2));
   j0 = p6;
   i0 = (u32)(j0);
   i32_load_at(i0, a1, 0);
@@ -10637,7 +10552,7 @@ static void code_f21(uint8_t *const m, const u32 last, u64 p0, u64 p1, u64 p2, u
   j0 = p1;
   j1 = p7;
   i2 = l10;
-  call(code_f32(m, last, j0, j1, i2));
+  call(code_f31(m, last, j0, j1, i2));
   j0 = p0;
   j1 = 4ull;
   j0 += j1;
@@ -10754,7 +10669,7 @@ static void code_f21(uint8_t *const m, const u32 last, u64 p0, u64 p1, u64 p2, u
   return;
 }
 
-static void code_f22(uint8_t *const m, const u32 last, u64 p0, u64 p1) {
+static void code_f21(uint8_t *const m, const u32 last, u64 p0, u64 p1) {
   u64 l2 = 0, l3 = 0, l4 = 0, l5 = 0, l6 = 0, l7 = 0;
   u32 i0, i1, i2;
   u64 j0, j1, j2, j3;
@@ -10884,7 +10799,7 @@ static void code_f22(uint8_t *const m, const u32 last, u64 p0, u64 p1) {
   return;
 }
 
-static void code_f23(uint8_t *const m, const u32 last, u64 p0, u64 p1, u64 p2, u64 p3, u64 p4, u64 p5) {
+static void code_f22(uint8_t *const m, const u32 last, u64 p0, u64 p1, u64 p2, u64 p3, u64 p4, u64 p5) {
   u32 l15 = 0, l16 = 0, l17 = 0, l18 = 0;
   u64 l6 = 0, l7 = 0, l8 = 0, l9 = 0, l10 = 0, l11 = 0, l12 = 0, l13 = 0, l14 = 0;
   u32 i0, i1, i2, i3, i4;
@@ -10980,7 +10895,7 @@ static void code_f23(uint8_t *const m, const u32 last, u64 p0, u64 p1, u64 p2, u
     i2 = l17;
     i3 = 7u;
     i2 &= i3;
-    call(j0 = code_f17(m, last, j0, j1, i2));
+    call(j0 = code_f16(m, last, j0, j1, i2));
     l7 = j0;
     goto B4;
     B5:;
@@ -11190,7 +11105,7 @@ static void code_f23(uint8_t *const m, const u32 last, u64 p0, u64 p1, u64 p2, u
     j2 = p4;
     j3 = p5;
     j4 = l6;
-    call(j0 = code_f28(m, last, j0, j1, j2, j3, j4));
+    call(j0 = code_f27(m, last, j0, j1, j2, j3, j4));
     l11 = j0;
     j0 = p2;
     i0 = (u32)(j0);
@@ -11250,7 +11165,7 @@ static void code_f23(uint8_t *const m, const u32 last, u64 p0, u64 p1, u64 p2, u
   return;
 }
 
-static void code_f24(uint8_t *const m, const u32 last, u64 p0, u64 p1, u64 p2, u64 p3, u64 p4) {
+static void code_f23(uint8_t *const m, const u32 last, u64 p0, u64 p1, u64 p2, u64 p3, u64 p4) {
   u32 l14 = 0, l15 = 0;
   u64 l5 = 0, l6 = 0, l7 = 0, l8 = 0, l9 = 0, l10 = 0, l11 = 0, l12 = 0, l13 = 0;
   u32 i0, i1, i2, i4, i5;
@@ -11591,7 +11506,7 @@ static void code_f24(uint8_t *const m, const u32 last, u64 p0, u64 p1, u64 p2, u
   j5 += j6;
   i5 = (u32)(j5);
   i64_load_at(j5, a9, 8);
-  call(code_f23(m, last, j0, j1, j2, j3, j4, j5));
+  call(code_f22(m, last, j0, j1, j2, j3, j4, j5));
   goto B0;
   B1:;
   j0 = l5;
@@ -11609,7 +11524,7 @@ static void code_f24(uint8_t *const m, const u32 last, u64 p0, u64 p1, u64 p2, u
   j5 += j6;
   i5 = (u32)(j5);
   i64_load_at(j5, a10, 8);
-  call(code_f23(m, last, j0, j1, j2, j3, j4, j5));
+  call(code_f22(m, last, j0, j1, j2, j3, j4, j5));
   B0:;
   j0 = l5;
   i0 = (u32)(j0);
@@ -11648,7 +11563,7 @@ static void code_f24(uint8_t *const m, const u32 last, u64 p0, u64 p1, u64 p2, u
   return;
 }
 
-static void code_f25(uint8_t *const m, const u32 last, u64 p0, u64 p1, u32 p2) {
+static void code_f24(uint8_t *const m, const u32 last, u64 p0, u64 p1, u32 p2) {
   u32 l3 = 0, l4 = 0, l5 = 0, l6 = 0, l7 = 0, l8 = 0, l9 = 0, l10 = 0, l11 = 0, l12 = 0;
   u64 l13 = 0, l14 = 0;
   u32 i0, i1, i2, i3, i4, i5;
@@ -12236,7 +12151,7 @@ static void code_f25(uint8_t *const m, const u32 last, u64 p0, u64 p1, u32 p2) {
   return;
 }
 
-static void code_f26(uint8_t *const m, const u32 last, u64 p0, u64 p1) {
+static void code_f25(uint8_t *const m, const u32 last, u64 p0, u64 p1) {
   u64 l2 = 0;
   u32 i0;
   u64 j0, j1, j2, j3, j4;
@@ -12458,7 +12373,7 @@ static void code_f26(uint8_t *const m, const u32 last, u64 p0, u64 p1) {
   return;
 }
 
-static void code_f27(uint8_t *const m, const u32 last, u64 p0, u64 p1) {
+static void code_f26(uint8_t *const m, const u32 last, u64 p0, u64 p1) {
   u64 l2 = 0;
   u32 i0, i1;
   u64 j0, j1;
@@ -12470,7 +12385,7 @@ static void code_f27(uint8_t *const m, const u32 last, u64 p0, u64 p1) {
   j1 = 8ull;
   j0 += j1;
   j1 = p1;
-  call(code_f26(m, last, j0, j1));
+  call(code_f25(m, last, j0, j1));
   j0 = p0;
   i0 = (u32)(j0);
   j1 = l2;
@@ -12524,7 +12439,7 @@ static void code_f27(uint8_t *const m, const u32 last, u64 p0, u64 p1) {
   return;
 }
 
-static u64 code_f28(uint8_t *const m, const u32 last, u64 p0, u64 p1, u64 p2, u64 p3, u64 p4) {
+static u64 code_f27(uint8_t *const m, const u32 last, u64 p0, u64 p1, u64 p2, u64 p3, u64 p4) {
   u32 i0, i1;
   u64 j0, j1, j2;
   uint8_t *a0;
@@ -12534,7 +12449,7 @@ static u64 code_f28(uint8_t *const m, const u32 last, u64 p0, u64 p1, u64 p2, u6
   if (i0) {goto B0;}
   j0 = p0;
   j1 = p1;
-  call(j0 = code_f19(m, last, j0, j1));
+  call(j0 = code_f18(m, last, j0, j1));
   goto Bfunc;
   B0:;
   j0 = p2;
@@ -12550,7 +12465,7 @@ static u64 code_f28(uint8_t *const m, const u32 last, u64 p0, u64 p1, u64 p2, u6
   if (i0) {goto B1;}
   j0 = p4;
   j1 = p1;
-  call(code_f27(m, last, j0, j1));
+  call(code_f26(m, last, j0, j1));
   B1:;
   j0 = p0;
   j1 = 32ull;
@@ -12638,7 +12553,7 @@ static u64 code_f28(uint8_t *const m, const u32 last, u64 p0, u64 p1, u64 p2, u6
   return 0;
 }
 
-static void code_f29(uint8_t *const m, const u32 last, u64 p0, u64 p1, u64 p2, u64 p3, u32 p4, u64 p5, u64 p6) {
+static void code_f28(uint8_t *const m, const u32 last, u64 p0, u64 p1, u64 p2, u64 p3, u32 p4, u64 p5, u64 p6) {
   u32 l15 = 0, l16 = 0, l17 = 0;
   u64 l7 = 0, l8 = 0, l9 = 0, l10 = 0, l11 = 0, l12 = 0, l13 = 0, l14 = 0;
   u32 i0, i1, i2, i4, i5;
@@ -12709,7 +12624,7 @@ static void code_f29(uint8_t *const m, const u32 last, u64 p0, u64 p1, u64 p2, u
   i4 = p4;
   j5 = p5;
   j6 = p6;
-  call(code_f30(m, last, j0, j1, j2, j3, i4, j5, j6));
+  call(code_f29(m, last, j0, j1, j2, j3, i4, j5, j6));
   j0 = l7;
   i0 = (u32)(j0);
   i32_load8_u_at(i0, frame, 0);
@@ -13261,7 +13176,7 @@ static void code_f29(uint8_t *const m, const u32 last, u64 p0, u64 p1, u64 p2, u
   j5 += j6;
   i5 = (u32)(j5);
   i64_load_at(j5, a14, 8);
-  call(code_f23(m, last, j0, j1, j2, j3, j4, j5));
+  call(code_f22(m, last, j0, j1, j2, j3, j4, j5));
   goto B16;
   B17:;
   j0 = l7;
@@ -13281,7 +13196,7 @@ static void code_f29(uint8_t *const m, const u32 last, u64 p0, u64 p1, u64 p2, u
   j5 += j6;
   i5 = (u32)(j5);
   i64_load_at(j5, a15, 8);
-  call(code_f23(m, last, j0, j1, j2, j3, j4, j5));
+  call(code_f22(m, last, j0, j1, j2, j3, j4, j5));
   B16:;
   j0 = l7;
   i0 = (u32)(j0);
@@ -13300,7 +13215,7 @@ static void code_f29(uint8_t *const m, const u32 last, u64 p0, u64 p1, u64 p2, u
   j2 = p2;
   j3 = p3;
   j4 = p6;
-  call(code_f24(m, last, j0, j1, j2, j3, j4));
+  call(code_f23(m, last, j0, j1, j2, j3, j4));
   j0 = l7;
   i0 = (u32)(j0);
   i32_load8_u_at(i0, frame, 16);
@@ -13399,7 +13314,7 @@ static void code_f29(uint8_t *const m, const u32 last, u64 p0, u64 p1, u64 p2, u
   return;
 }
 
-static void code_f30(uint8_t *const m, const u32 last, u64 p0, u64 p1, u64 p2, u64 p3, u32 p4, u64 p5, u64 p6) {
+static void code_f29(uint8_t *const m, const u32 last, u64 p0, u64 p1, u64 p2, u64 p3, u32 p4, u64 p5, u64 p6) {
   u32 l15 = 0, l16 = 0, l17 = 0, l18 = 0;
   u64 l7 = 0, l8 = 0, l9 = 0, l10 = 0, l11 = 0, l12 = 0, l13 = 0, l14 = 0;
   u32 i0, i1, i2;
@@ -13424,7 +13339,7 @@ static void code_f30(uint8_t *const m, const u32 last, u64 p0, u64 p1, u64 p2, u
   i2 = (u32)(j2);
   reach(a1, i2, 0, 0);
   i32_load_at(i2, a1, 0);
-  call(code_f31(m, last, j0, j1, i2));
+  call(code_f30(m, last, j0, j1, i2));
   j0 = l7;
   i0 = (u32)(j0);
   i32_load8_u_at(i0, frame, 0);
@@ -13949,7 +13864,7 @@ static void code_f30(uint8_t *const m, const u32 last, u64 p0, u64 p1, u64 p2, u
   j0 = p1;
   j1 = p6;
   i2 = p4;
-  call(code_f32(m, last, j0, j1, i2));
+  call(code_f31(m, last, j0, j1, i2));
   j0 = p3;
   i0 = (u32)(j0);
   i32_load_at(i0, a14, 0);
@@ -13963,7 +13878,7 @@ static void code_f30(uint8_t *const m, const u32 last, u64 p0, u64 p1, u64 p2, u
   j0 = p1;
   j1 = p6;
   i2 = l16;
-  call(code_f32(m, last, j0, j1, i2));
+  call(code_f31(m, last, j0, j1, i2));
   i0 = 0u;
   l18 = i0;
   i0 = 0u;
@@ -14465,7 +14380,7 @@ static void code_f30(uint8_t *const m, const u32 last, u64 p0, u64 p1, u64 p2, u
   j0 = p1;
   j1 = p6;
   i2 = p4;
-  call(code_f32(m, last, j0, j1, i2));
+  call(code_f31(m, last, j0, j1, i2));
   j0 = p3;
   i0 = (u32)(j0);
   i32_load_at(i0, a25, 0);
@@ -14479,7 +14394,7 @@ static void code_f30(uint8_t *const m, const u32 last, u64 p0, u64 p1, u64 p2, u
   j0 = p1;
   j1 = p6;
   i2 = l16;
-  call(code_f32(m, last, j0, j1, i2));
+  call(code_f31(m, last, j0, j1, i2));
   i0 = 0u;
   l16 = i0;
   i0 = 0u;
@@ -14513,7 +14428,7 @@ static void code_f30(uint8_t *const m, const u32 last, u64 p0, u64 p1, u64 p2, u
   return;
 }
 
-static void code_f31(uint8_t *const m, const u32 last, u64 p0, u64 p1, u32 p2) {
+static void code_f30(uint8_t *const m, const u32 last, u64 p0, u64 p1, u32 p2) {
   u32 l3 = 0, l4 = 0, l5 = 0, l6 = 0, l7 = 0, l8 = 0;
   u64 l9 = 0, l10 = 0, l11 = 0;
   u32 i0, i1, i2, i3, i4;
@@ -14612,7 +14527,7 @@ static void code_f31(uint8_t *const m, const u32 last, u64 p0, u64 p1, u32 p2) {
   i2 = l3;
   i3 = 7u;
   i2 &= i3;
-  call(j0 = code_f17(m, last, j0, j1, i2));
+  call(j0 = code_f16(m, last, j0, j1, i2));
   l10 = j0;
   goto B5;
   B6:;
@@ -14764,7 +14679,7 @@ static void code_f31(uint8_t *const m, const u32 last, u64 p0, u64 p1, u32 p2) {
   return;
 }
 
-static void code_f32(uint8_t *const m, const u32 last, u64 p0, u64 p1, u32 p2) {
+static void code_f31(uint8_t *const m, const u32 last, u64 p0, u64 p1, u32 p2) {
   u32 l3 = 0, l4 = 0, l5 = 0, l6 = 0;
   u64 l7 = 0, l8 = 0, l9 = 0, l10 = 0;
   u32 i0, i1, i2, i3, i4;
@@ -14828,7 +14743,7 @@ static void code_f32(uint8_t *const m, const u32 last, u64 p0, u64 p1, u32 p2) {
     i2 = l4;
     i3 = 7u;
     i2 &= i3;
-    call(j0 = code_f17(m, last, j0, j1, i2));
+    call(j0 = code_f16(m, last, j0, j1, i2));
     l9 = j0;
     goto B2;
     B3:;
@@ -14940,7 +14855,7 @@ static void code_f32(uint8_t *const m, const u32 last, u64 p0, u64 p1, u32 p2) {
   i2 = l5;
   i3 = 7u;
   i2 &= i3;
-  call(j0 = code_f17(m, last, j0, j1, i2));
+  call(j0 = code_f16(m, last, j0, j1, i2));
   p1 = j0;
   goto B5;
   B6:;
@@ -14995,7 +14910,7 @@ static void code_f32(uint8_t *const m, const u32 last, u64 p0, u64 p1, u32 p2) {
   return;
 }
 
-static void code_f33(uint8_t *const m, const u32 last, u64 p0, u32 p1) {
+static void code_f32(uint8_t *const m, const u32 last, u64 p0, u32 p1) {
   u32 l35 = 0;
   u64 l2 = 0, l3 = 0, l4 = 0, l5 = 0, l6 = 0, l7 = 0, l8 = 0, l9 = 0, l10 = 0, l11 = 0, l12 = 0, l13 = 0, l14 = 0, l15 = 0, l16 = 0, l17 = 0, l18 = 0, l19 = 0, l20 = 0, l21 = 0, l22 = 0, l23 = 0, l24 = 0, l25 = 0, l26 = 0, l27 = 0, l28 = 0, l29 = 0, l30 = 0, l31 = 0, l32 = 0, l33 = 0, l34 = 0;
   u32 i0, i1, i2;
@@ -15169,7 +15084,7 @@ static void code_f33(uint8_t *const m, const u32 last, u64 p0, u32 p1) {
   j1 = 128ull;
   j0 += j1;
   i1 = p1;
-  call(code_f34(m, last, j0, i1));
+  call(code_f33(m, last, j0, i1));
   j0 = l2;
   i0 = (u32)(j0);
   i32_load8_u_at(i0, frame, 128);
@@ -15230,7 +15145,7 @@ static void code_f33(uint8_t *const m, const u32 last, u64 p0, u32 p1) {
   j1 = 216ull;
   j0 += j1;
   i1 = p1;
-  call(code_f34(m, last, j0, i1));
+  call(code_f33(m, last, j0, i1));
   j0 = l2;
   i0 = (u32)(j0);
   i32_load8_u_at(i0, frame, 216);
@@ -15444,7 +15359,7 @@ static void code_f33(uint8_t *const m, const u32 last, u64 p0, u32 p1) {
     j1 = 304ull;
     j0 += j1;
     j1 = 0ull;
-    call(code_f26(m, last, j0, j1));
+    call(code_f25(m, last, j0, j1));
     j0 = l27;
     i0 = (u32)(j0);
     j1 = l2;
@@ -15978,7 +15893,7 @@ static void code_f33(uint8_t *const m, const u32 last, u64 p0, u32 p1) {
   return;
 }
 
-static void code_f34(uint8_t *const m, const u32 last, u64 p0, u32 p1) {
+static void code_f33(uint8_t *const m, const u32 last, u64 p0, u32 p1) {
   u32 l7 = 0;
   u64 l2 = 0, l3 = 0, l4 = 0, l5 = 0, l6 = 0;
   u32 i0, i1, i2;
@@ -16196,7 +16111,7 @@ static void code_f34(uint8_t *const m, const u32 last, u64 p0, u32 p1) {
   return;
 }
 
-static void code_f35(uint8_t *const m, const u32 last, u64 p0, u64 p1, u64 p2, u64 p3, u64 p4) {
+static void code_f34(uint8_t *const m, const u32 last, u64 p0, u64 p1, u64 p2, u64 p3, u64 p4) {
   u32 l5 = 0, l6 = 0, l7 = 0, l8 = 0, l9 = 0;
   u64 l10 = 0, l11 = 0, l12 = 0, l13 = 0;
   u32 i0, i1, i2, i3, i4, i5;
@@ -16295,7 +16210,7 @@ static void code_f35(uint8_t *const m, const u32 last, u64 p0, u64 p1, u64 p2, u
     j2 = p3;
     j3 = p4;
     j4 = l12;
-    call(i2 = code_f6(m, last, j2, j3, j4));
+    call(i2 = code_f5(m, last, j2, j3, j4));
     l6 = i2;
     i0 = i2 ? i0 : i1;
     l5 = i0;
@@ -16568,7 +16483,7 @@ static void code_f35(uint8_t *const m, const u32 last, u64 p0, u64 p1, u64 p2, u
   return;
 }
 
-static void code_f36(uint8_t *const m, const u32 last, u64 p0, u64 p1, u64 p2, u32 p3, u64 p4) {
+static void code_f35(uint8_t *const m, const u32 last, u64 p0, u64 p1, u64 p2, u32 p3, u64 p4) {
   u32 l19 = 0, l20 = 0, l21 = 0, l22 = 0, l23 = 0, l24 = 0, l25 = 0, l26 = 0;
   u64 l5 = 0, l6 = 0, l7 = 0, l8 = 0, l9 = 0, l10 = 0, l11 = 0, l12 = 0, l13 = 0, l14 = 0, l15 = 0, l16 = 0, l17 = 0, l18 = 0;
   u32 i0, i1, i2, i3, i4, i5;
@@ -19188,7 +19103,7 @@ static void code_f36(uint8_t *const m, const u32 last, u64 p0, u64 p1, u64 p2, u
   l15 = j0;
   B8:;
   j0 = l14;
-  call(code_f8(m, last, j0));
+  call(code_f7(m, last, j0));
   j0 = p0;
   j1 = 216ull;
   j0 += j1;
@@ -19227,7 +19142,7 @@ static void code_f36(uint8_t *const m, const u32 last, u64 p0, u64 p1, u64 p2, u
   j4 = l9;
   i4 = (u32)(j4);
   i32_load8_u_at(i4, a65, 80);
-  call(i1 = code_f37(m, last, j1, i2, j3, i4));
+  call(i1 = code_f36(m, last, j1, i2, j3, i4));
   l23 = i1;
   i32_store8_at(i1, a65, 80);
   j0 = p2;
@@ -19394,7 +19309,7 @@ static void code_f36(uint8_t *const m, const u32 last, u64 p0, u64 p1, u64 p2, u
   if (i0) {goto B72;}
   B73:;
   j0 = l14;
-  call(code_f8(m, last, j0));
+  call(code_f7(m, last, j0));
   j0 = p0;
   j1 = 216ull;
   j0 += j1;
@@ -19433,7 +19348,7 @@ static void code_f36(uint8_t *const m, const u32 last, u64 p0, u64 p1, u64 p2, u
   j4 = l9;
   i4 = (u32)(j4);
   i32_load8_u_at(i4, a67, 80);
-  call(i1 = code_f37(m, last, j1, i2, j3, i4));
+  call(i1 = code_f36(m, last, j1, i2, j3, i4));
   l23 = i1;
   i32_store8_at(i1, a67, 80);
   j0 = p2;
@@ -19734,7 +19649,7 @@ static void code_f36(uint8_t *const m, const u32 last, u64 p0, u64 p1, u64 p2, u
   j2 = l5;
   j3 = 8ull;
   j2 += j3;
-  call(code_f9(m, last, j0, j1, j2));
+  call(code_f8(m, last, j0, j1, j2));
   j0 = l5;
   i0 = (u32)(j0);
   i32_load8_u_at(i0, frame, 40);
@@ -19802,7 +19717,7 @@ static void code_f36(uint8_t *const m, const u32 last, u64 p0, u64 p1, u64 p2, u
   j4 = l12;
   i4 = (u32)(j4);
   i32_load8_u_at(i4, a74, 80);
-  call(i1 = code_f37(m, last, j1, i2, j3, i4));
+  call(i1 = code_f36(m, last, j1, i2, j3, i4));
   l23 = i1;
   i32_store8_at(i1, a74, 80);
   j0 = l8;
@@ -19969,7 +19884,7 @@ static void code_f36(uint8_t *const m, const u32 last, u64 p0, u64 p1, u64 p2, u
   p2 = j0;
   j1 = 1ull;
   i2 = 1u;
-  call(code_f38(m, last, j0, j1, i2));
+  call(code_f37(m, last, j0, j1, i2));
   j0 = p2;
   j1 = p1;
   j2 = p0;
@@ -19985,7 +19900,7 @@ static void code_f36(uint8_t *const m, const u32 last, u64 p0, u64 p1, u64 p2, u
   j4 += j5;
   i4 = (u32)(j4);
   i64_load_at(j4, a76, 55);
-  call(code_f39(m, last, j0, j1, j2, j3, j4));
+  call(code_f38(m, last, j0, j1, j2, j3, j4));
   j0 = p0;
   j1 = 257ull;
   j0 += j1;
@@ -20001,7 +19916,7 @@ static void code_f36(uint8_t *const m, const u32 last, u64 p0, u64 p1, u64 p2, u
   j2 = 32ull;
   j1 += j2;
   i2 = 6u;
-  call(code_f38(m, last, j0, j1, i2));
+  call(code_f37(m, last, j0, j1, i2));
   j0 = p0;
   j1 = 352ull;
   j0 += j1;
@@ -20183,7 +20098,7 @@ static void code_f36(uint8_t *const m, const u32 last, u64 p0, u64 p1, u64 p2, u
     j0 = p4;
     j1 = l9;
     i2 = 64u;
-    call(code_f38(m, last, j0, j1, i2));
+    call(code_f37(m, last, j0, j1, i2));
     j0 = l8;
     j1 = 18446744073709551608ull;
     j0 += j1;
@@ -20216,7 +20131,7 @@ static void code_f36(uint8_t *const m, const u32 last, u64 p0, u64 p1, u64 p2, u
   j2 = (u64)(i2);
   j1 >>= (j2 & 63);
   i2 = l26;
-  call(code_f38(m, last, j0, j1, i2));
+  call(code_f37(m, last, j0, j1, i2));
   B100:;
   j0 = l11;
   i0 = (u32)(j0);
@@ -20243,14 +20158,14 @@ static void code_f36(uint8_t *const m, const u32 last, u64 p0, u64 p1, u64 p2, u
   B3:;
   j0 = p4;
   j1 = p2;
-  call(code_f40(m, last, j0, j1));
+  call(code_f39(m, last, j0, j1));
   j0 = p4;
   i1 = l26;
   j1 = (u64)(i1);
   j2 = 255ull;
   j1 &= j2;
   i2 = 4u;
-  call(code_f38(m, last, j0, j1, i2));
+  call(code_f37(m, last, j0, j1, i2));
   i0 = l26;
   i1 = 255u;
   i0 &= i1;
@@ -20507,7 +20422,7 @@ static void code_f36(uint8_t *const m, const u32 last, u64 p0, u64 p1, u64 p2, u
   j0 = p4;
   j1 = 1ull;
   i2 = 1u;
-  call(code_f38(m, last, j0, j1, i2));
+  call(code_f37(m, last, j0, j1, i2));
   j0 = p0;
   j1 = 232ull;
   j0 += j1;
@@ -20592,13 +20507,13 @@ static void code_f36(uint8_t *const m, const u32 last, u64 p0, u64 p1, u64 p2, u
     B112:;
     j0 = l9;
     j1 = p2;
-    call(j0 = code_f41(m, last, j0, j1));
+    call(j0 = code_f40(m, last, j0, j1));
     l8 = j0;
     B111:;
     j0 = p4;
     j1 = l8;
     i2 = l23;
-    call(code_f38(m, last, j0, j1, i2));
+    call(code_f37(m, last, j0, j1, i2));
     B110:;
     j0 = l14;
     j1 = 1ull;
@@ -20624,7 +20539,7 @@ static void code_f36(uint8_t *const m, const u32 last, u64 p0, u64 p1, u64 p2, u
   i1 = i1 != i2;
   j1 = (u64)(i1);
   i2 = 1u;
-  call(code_f38(m, last, j0, j1, i2));
+  call(code_f37(m, last, j0, j1, i2));
   goto B1;
   B2:;
   j0 = p4;
@@ -20635,7 +20550,7 @@ static void code_f36(uint8_t *const m, const u32 last, u64 p0, u64 p1, u64 p2, u
   j2 = 32ull;
   j1 += j2;
   i2 = 6u;
-  call(code_f38(m, last, j0, j1, i2));
+  call(code_f37(m, last, j0, j1, i2));
   i0 = 0u;
   l23 = i0;
   B1:;
@@ -20648,7 +20563,7 @@ static void code_f36(uint8_t *const m, const u32 last, u64 p0, u64 p1, u64 p2, u
   j2 = 1ull;
   j1 &= j2;
   i2 = 1u;
-  call(code_f38(m, last, j0, j1, i2));
+  call(code_f37(m, last, j0, j1, i2));
   i0 = l26;
   i1 = 1u;
   i0 &= i1;
@@ -20659,7 +20574,7 @@ static void code_f36(uint8_t *const m, const u32 last, u64 p0, u64 p1, u64 p2, u
   j2 = 1ull;
   j1 &= j2;
   i2 = 1u;
-  call(code_f38(m, last, j0, j1, i2));
+  call(code_f37(m, last, j0, j1, i2));
   i0 = p3;
   i1 = 1u;
   i0 &= i1;
@@ -20798,7 +20713,7 @@ static void code_f36(uint8_t *const m, const u32 last, u64 p0, u64 p1, u64 p2, u
   B116:;
   j0 = p4;
   j1 = l12;
-  call(code_f40(m, last, j0, j1));
+  call(code_f39(m, last, j0, j1));
   B115:;
   j0 = p4;
   i1 = l24;
@@ -20806,7 +20721,7 @@ static void code_f36(uint8_t *const m, const u32 last, u64 p0, u64 p1, u64 p2, u
   j2 = 1ull;
   j1 &= j2;
   i2 = 1u;
-  call(code_f38(m, last, j0, j1, i2));
+  call(code_f37(m, last, j0, j1, i2));
   B114:;
   i0 = l24;
   i1 = 1u;
@@ -20815,7 +20730,7 @@ static void code_f36(uint8_t *const m, const u32 last, u64 p0, u64 p1, u64 p2, u
   if (i0) {goto B120;}
   j0 = p4;
   j1 = p1;
-  call(code_f42(m, last, j0, j1));
+  call(code_f41(m, last, j0, j1));
   goto B119;
   B120:;
   i0 = l23;
@@ -21113,7 +21028,7 @@ static void code_f36(uint8_t *const m, const u32 last, u64 p0, u64 p1, u64 p2, u
   j4 += j5;
   i4 = (u32)(j4);
   i64_load_at(j4, a94, 8);
-  call(code_f39(m, last, j0, j1, j2, j3, j4));
+  call(code_f38(m, last, j0, j1, j2, j3, j4));
   goto B119;
   B121:;
   j0 = p4;
@@ -21130,7 +21045,7 @@ static void code_f36(uint8_t *const m, const u32 last, u64 p0, u64 p1, u64 p2, u
   j4 += j5;
   i4 = (u32)(j4);
   i64_load_at(j4, a95, 8);
-  call(code_f39(m, last, j0, j1, j2, j3, j4));
+  call(code_f38(m, last, j0, j1, j2, j3, j4));
   B119:;
   j0 = p0;
   j1 = 376ull;
@@ -21149,7 +21064,7 @@ static void code_f36(uint8_t *const m, const u32 last, u64 p0, u64 p1, u64 p2, u
   return;
 }
 
-static u32 code_f37(uint8_t *const m, const u32 last, u64 p0, u32 p1, u64 p2, u32 p3) {
+static u32 code_f36(uint8_t *const m, const u32 last, u64 p0, u32 p1, u64 p2, u32 p3) {
   u64 l4 = 0, l5 = 0, l6 = 0, l7 = 0, l8 = 0, l9 = 0, l10 = 0, l11 = 0, l12 = 0, l13 = 0;
   u32 i0, i1, i2, i3, i4;
   u64 j0, j1, j2, j3, j4, j5;
@@ -21418,7 +21333,7 @@ static u32 code_f37(uint8_t *const m, const u32 last, u64 p0, u32 p1, u64 p2, u3
   return 0;
 }
 
-static void code_f38(uint8_t *const m, const u32 last, u64 p0, u64 p1, u32 p2) {
+static void code_f37(uint8_t *const m, const u32 last, u64 p0, u64 p1, u32 p2) {
   u32 l6 = 0;
   u64 l3 = 0, l4 = 0, l5 = 0;
   u32 i0, i1, i2, i3, i4;
@@ -21555,7 +21470,7 @@ static void code_f38(uint8_t *const m, const u32 last, u64 p0, u64 p1, u32 p2) {
   return;
 }
 
-static void code_f39(uint8_t *const m, const u32 last, u64 p0, u64 p1, u64 p2, u64 p3, u64 p4) {
+static void code_f38(uint8_t *const m, const u32 last, u64 p0, u64 p1, u64 p2, u64 p3, u64 p4) {
   u32 l5 = 0, l6 = 0, l7 = 0;
   u64 l8 = 0, l9 = 0, l10 = 0, l11 = 0;
   u32 i0, i1, i2, i5;
@@ -21613,7 +21528,7 @@ static void code_f39(uint8_t *const m, const u32 last, u64 p0, u64 p1, u64 p2, u
     j0 = p0;
     j1 = l8;
     i2 = l6;
-    call(code_f38(m, last, j0, j1, i2));
+    call(code_f37(m, last, j0, j1, i2));
     B4:;
     j0 = p0;
     j1 = p1;
@@ -21621,7 +21536,7 @@ static void code_f39(uint8_t *const m, const u32 last, u64 p0, u64 p1, u64 p2, u
     j3 = p3;
     j4 = p4;
     i5 = l5;
-    call(i0 = code_f43(m, last, j0, j1, j2, j3, j4, i5));
+    call(i0 = code_f42(m, last, j0, j1, j2, j3, j4, i5));
     l5 = i0;
     i0 = 0u;
     l6 = i0;
@@ -21640,7 +21555,7 @@ static void code_f39(uint8_t *const m, const u32 last, u64 p0, u64 p1, u64 p2, u
     j0 = p0;
     j1 = l8;
     i2 = l6;
-    call(code_f38(m, last, j0, j1, i2));
+    call(code_f37(m, last, j0, j1, i2));
     j0 = 0ull;
     l8 = j0;
     i0 = 0u;
@@ -21687,7 +21602,7 @@ static void code_f39(uint8_t *const m, const u32 last, u64 p0, u64 p1, u64 p2, u
   j0 = p0;
   j1 = l8;
   i2 = l6;
-  call(code_f38(m, last, j0, j1, i2));
+  call(code_f37(m, last, j0, j1, i2));
   B7:;
   return;
   trap:
@@ -21695,7 +21610,7 @@ static void code_f39(uint8_t *const m, const u32 last, u64 p0, u64 p1, u64 p2, u
   return;
 }
 
-static void code_f40(uint8_t *const m, const u32 last, u64 p0, u64 p1) {
+static void code_f39(uint8_t *const m, const u32 last, u64 p0, u64 p1) {
   u32 l2 = 0, l3 = 0, l4 = 0, l5 = 0, l6 = 0, l7 = 0;
   u64 l8 = 0, l9 = 0, l10 = 0;
   u32 i0, i1, i2, i3;
@@ -21793,7 +21708,7 @@ static void code_f40(uint8_t *const m, const u32 last, u64 p0, u64 p1) {
     i2 = l4;
     i3 = 2u;
     i2 += i3;
-    call(code_f38(m, last, j0, j1, i2));
+    call(code_f37(m, last, j0, j1, i2));
     goto Bfunc;
     B1:;
     j0 = l8;
@@ -21817,7 +21732,7 @@ static void code_f40(uint8_t *const m, const u32 last, u64 p0, u64 p1) {
     j0 = p0;
     j1 = l9;
     i2 = l4;
-    call(code_f38(m, last, j0, j1, i2));
+    call(code_f37(m, last, j0, j1, i2));
     j0 = 0ull;
     l9 = j0;
     i0 = 0u;
@@ -21904,7 +21819,7 @@ static void code_f40(uint8_t *const m, const u32 last, u64 p0, u64 p1) {
   return;
 }
 
-static u64 code_f41(uint8_t *const m, const u32 last, u64 p0, u64 p1) {
+static u64 code_f40(uint8_t *const m, const u32 last, u64 p0, u64 p1) {
   u64 l2 = 0, l3 = 0, l4 = 0, l5 = 0, l6 = 0, l7 = 0, l8 = 0;
   u32 i0;
   u64 j0, j1, j2, j3, j4, j5, j6, j7;
@@ -21916,7 +21831,7 @@ static u64 code_f41(uint8_t *const m, const u32 last, u64 p0, u64 p1) {
   j1 = 8ull;
   j0 += j1;
   j1 = p1;
-  call(code_f26(m, last, j0, j1));
+  call(code_f25(m, last, j0, j1));
   j0 = l2;
   i0 = (u32)(j0);
   i64_load_at(j0, frame, 8);
@@ -21927,7 +21842,7 @@ static u64 code_f41(uint8_t *const m, const u32 last, u64 p0, u64 p1) {
   j1 = 8ull;
   j0 += j1;
   j1 = p1;
-  call(code_f27(m, last, j0, j1));
+  call(code_f26(m, last, j0, j1));
   B0:;
   j0 = l2;
   i0 = (u32)(j0);
@@ -22026,7 +21941,7 @@ static u64 code_f41(uint8_t *const m, const u32 last, u64 p0, u64 p1) {
   return 0;
 }
 
-static void code_f42(uint8_t *const m, const u32 last, u64 p0, u64 p1) {
+static void code_f41(uint8_t *const m, const u32 last, u64 p0, u64 p1) {
   u32 l2 = 0, l3 = 0, l4 = 0;
   u64 l5 = 0, l6 = 0, l7 = 0;
   u32 i0, i1, i2, i3, i4, i5;
@@ -22083,7 +21998,7 @@ static void code_f42(uint8_t *const m, const u32 last, u64 p0, u64 p1) {
   i1 = l2;
   j1 = (u64)(i1);
   i2 = l3;
-  call(code_f38(m, last, j0, j1, i2));
+  call(code_f37(m, last, j0, j1, i2));
   j0 = p1;
   j1 = 8ull;
   j0 += j1;
@@ -22115,7 +22030,7 @@ static void code_f42(uint8_t *const m, const u32 last, u64 p0, u64 p1) {
     i1 = (u32)(j1);
     i64_load(j1, i1, 0);
     i2 = 64u;
-    call(code_f38(m, last, j0, j1, i2));
+    call(code_f37(m, last, j0, j1, i2));
     j0 = l7;
     j1 = l5;
     j2 = 8ull;
@@ -22151,14 +22066,14 @@ static void code_f42(uint8_t *const m, const u32 last, u64 p0, u64 p1) {
   j2 = (u64)(i2);
   j1 >>= (j2 & 63);
   i2 = l3;
-  call(code_f38(m, last, j0, j1, i2));
+  call(code_f37(m, last, j0, j1, i2));
   return;
   trap:
   set_broken(m);
   return;
 }
 
-static u32 code_f43(uint8_t *const m, const u32 last, u64 p0, u64 p1, u64 p2, u64 p3, u64 p4, u32 p5) {
+static u32 code_f42(uint8_t *const m, const u32 last, u64 p0, u64 p1, u64 p2, u64 p3, u64 p4, u32 p5) {
   u32 l6 = 0;
   u64 l7 = 0, l8 = 0, l9 = 0, l10 = 0;
   u32 i0, i1, i2, i3;
@@ -22197,9 +22112,9 @@ static u32 code_f43(uint8_t *const m, const u32 last, u64 p0, u64 p1, u64 p2, u6
   j4 = p3;
   j5 = p4;
   j6 = l7;
-  call(j1 = code_f44(m, last, j1, j2, i3, j4, j5, j6));
+  call(j1 = code_f43(m, last, j1, j2, i3, j4, j5, j6));
   i2 = p5;
-  call(code_f38(m, last, j0, j1, i2));
+  call(code_f37(m, last, j0, j1, i2));
   i0 = l6;
   i0 = !(i0);
   if (i0) {goto B1;}
@@ -22240,9 +22155,9 @@ static u32 code_f43(uint8_t *const m, const u32 last, u64 p0, u64 p1, u64 p2, u6
     j4 = p3;
     j5 = p4;
     j6 = l7;
-    call(j1 = code_f44(m, last, j1, j2, i3, j4, j5, j6));
+    call(j1 = code_f43(m, last, j1, j2, i3, j4, j5, j6));
     i2 = l6;
-    call(code_f38(m, last, j0, j1, i2));
+    call(code_f37(m, last, j0, j1, i2));
     i0 = p5;
     l6 = i0;
     i0 = p5;
@@ -22258,7 +22173,7 @@ static u32 code_f43(uint8_t *const m, const u32 last, u64 p0, u64 p1, u64 p2, u6
   return 0;
 }
 
-static u64 code_f44(uint8_t *const m, const u32 last, u64 p0, u64 p1, u32 p2, u64 p3, u64 p4, u64 p5) {
+static u64 code_f43(uint8_t *const m, const u32 last, u64 p0, u64 p1, u32 p2, u64 p3, u64 p4, u64 p5) {
   u32 i0, i1, i2;
   u64 j0, j1, j2, j3, j4;
   uint8_t *a0;
@@ -22272,7 +22187,7 @@ static u64 code_f44(uint8_t *const m, const u32 last, u64 p0, u64 p1, u32 p2, u6
   if (i0) {goto B1;}
   j0 = p0;
   j1 = p1;
-  call(j0 = code_f41(m, last, j0, j1));
+  call(j0 = code_f40(m, last, j0, j1));
   p0 = j0;
   goto B0;
   B1:;
@@ -22289,7 +22204,7 @@ static u64 code_f44(uint8_t *const m, const u32 last, u64 p0, u64 p1, u32 p2, u6
   if (i0) {goto B2;}
   j0 = p5;
   j1 = p1;
-  call(code_f27(m, last, j0, j1));
+  call(code_f26(m, last, j0, j1));
   B2:;
   j0 = p5;
   j1 = 8ull;
@@ -22468,7 +22383,7 @@ static u64 code_f44(uint8_t *const m, const u32 last, u64 p0, u64 p1, u32 p2, u6
   return 0;
 }
 
-static void code_f45(uint8_t *const m, const u32 last, u64 p0) {
+static void code_f44(uint8_t *const m, const u32 last, u64 p0) {
   u64 l1 = 0, l2 = 0, l3 = 0, l4 = 0, l5 = 0, l6 = 0, l7 = 0;
   u32 i0, i1, i2, i4;
   u64 j0, j1, j2, j3, j4, j5;
@@ -22593,7 +22508,7 @@ static void code_f45(uint8_t *const m, const u32 last, u64 p0) {
   return;
 }
 
-static u32 code_f46(uint8_t *const m, const u32 last, u64 p0) {
+static u32 code_f45(uint8_t *const m, const u32 last, u64 p0) {
   u32 l6 = 0;
   u64 l1 = 0, l2 = 0, l3 = 0, l4 = 0, l5 = 0;
   u32 i0, i1, i2;
@@ -22720,7 +22635,7 @@ static u32 code_f46(uint8_t *const m, const u32 last, u64 p0) {
   return 0;
 }
 
-static void code_f47(uint8_t *const m, const u32 last, u64 p0, u32 p1, u64 p2, u64 p3) {
+static void code_f46(uint8_t *const m, const u32 last, u64 p0, u32 p1, u64 p2, u64 p3) {
   u32 l9 = 0, l10 = 0, l11 = 0, l12 = 0;
   u64 l4 = 0, l5 = 0, l6 = 0, l7 = 0, l8 = 0;
   u32 i0, i1, i2, i3, i4;
@@ -22983,7 +22898,7 @@ static void code_f47(uint8_t *const m, const u32 last, u64 p0, u32 p1, u64 p2, u
     j3 = 32ull;
     j2 += j3;
     j3 = p3;
-    call(j1 = code_f48(m, last, j1, j2, j3));
+    call(j1 = code_f47(m, last, j1, j2, j3));
     l5 = j1;
     j0 -= j1;
     j1 = 31ull;
@@ -23241,7 +23156,7 @@ static void code_f47(uint8_t *const m, const u32 last, u64 p0, u32 p1, u64 p2, u
   return;
 }
 
-static u64 code_f48(uint8_t *const m, const u32 last, u64 p0, u64 p1, u64 p2) {
+static u64 code_f47(uint8_t *const m, const u32 last, u64 p0, u64 p1, u64 p2) {
   u64 l3 = 0, l4 = 0, l5 = 0;
   u32 i0, i1;
   u64 j0, j1, j2;
@@ -23412,7 +23327,7 @@ static u64 code_f48(uint8_t *const m, const u32 last, u64 p0, u64 p1, u64 p2) {
   return 0;
 }
 
-static u32 code_f49(uint8_t *const m, const u32 last, u64 p0, u64 p1, u64 p2, u64 p3) {
+static u32 code_f48(uint8_t *const m, const u32 last, u64 p0, u64 p1, u64 p2, u64 p3) {
   u32 l4 = 0;
   u64 l5 = 0, l6 = 0;
   u32 i0, i1, i2, i3, i4, i5, i6, i7;
@@ -25436,7 +25351,7 @@ static u32 code_f49(uint8_t *const m, const u32 last, u64 p0, u64 p1, u64 p2, u6
   return 0;
 }
 
-static u32 code_f50(uint8_t *const m, const u32 last, u64 p0, u64 p1, u64 p2, u64 p3, u32 p4, u32 p5, u64 p6, u64 p7) {
+static u32 code_f49(uint8_t *const m, const u32 last, u64 p0, u64 p1, u64 p2, u64 p3, u32 p4, u32 p5, u64 p6, u64 p7) {
   u64 l8 = 0;
   u32 i0, i1, i5;
   u64 j0, j1, j2, j3, j4;
@@ -25476,7 +25391,7 @@ static u32 code_f50(uint8_t *const m, const u32 last, u64 p0, u64 p1, u64 p2, u6
   j3 = p2;
   j4 = p3;
   i5 = p4;
-  call(code_f51(m, last, j0, j1, j2, j3, j4, i5));
+  call(code_f50(m, last, j0, j1, j2, j3, j4, i5));
   i0 = 1u;
   p4 = i0;
   j0 = l8;
@@ -25493,7 +25408,7 @@ static u32 code_f50(uint8_t *const m, const u32 last, u64 p0, u64 p1, u64 p2, u6
   i64_load_at(j1, frame, 40);
   j2 = p6;
   j3 = p7;
-  call(i0 = code_f49(m, last, j0, j1, j2, j3));
+  call(i0 = code_f48(m, last, j0, j1, j2, j3));
   if (i0) {goto B0;}
   B1:;
   j0 = l8;
@@ -25502,7 +25417,7 @@ static u32 code_f50(uint8_t *const m, const u32 last, u64 p0, u64 p1, u64 p2, u6
   j3 = p2;
   j4 = p3;
   i5 = p5;
-  call(code_f51(m, last, j0, j1, j2, j3, j4, i5));
+  call(code_f50(m, last, j0, j1, j2, j3, j4, i5));
   j0 = l8;
   i0 = (u32)(j0);
   i32_load8_u_at(i0, frame, 0);
@@ -25521,7 +25436,7 @@ static u32 code_f50(uint8_t *const m, const u32 last, u64 p0, u64 p1, u64 p2, u6
   i64_load_at(j1, frame, 16);
   j2 = p6;
   j3 = p7;
-  call(i0 = code_f49(m, last, j0, j1, j2, j3));
+  call(i0 = code_f48(m, last, j0, j1, j2, j3));
   p4 = i0;
   B0:;
   j0 = l8;
@@ -25535,7 +25450,7 @@ static u32 code_f50(uint8_t *const m, const u32 last, u64 p0, u64 p1, u64 p2, u6
   return 0;
 }
 
-static void code_f51(uint8_t *const m, const u32 last, u64 p0, u64 p1, u64 p2, u64 p3, u64 p4, u32 p5) {
+static void code_f50(uint8_t *const m, const u32 last, u64 p0, u64 p1, u64 p2, u64 p3, u64 p4, u32 p5) {
   u64 l6 = 0, l7 = 0, l8 = 0, l9 = 0;
   u32 i0, i1, i2;
   u64 j0, j1, j2, j3;
@@ -26237,7 +26152,7 @@ static void code_f51(uint8_t *const m, const u32 last, u64 p0, u64 p1, u64 p2, u
     i1 = 61u;
     j2 = p1;
     j3 = p2;
-    call(code_f47(m, last, j0, i1, j2, j3));
+    call(code_f46(m, last, j0, i1, j2, j3));
     j0 = l6;
     i0 = (u32)(j0);
     i32_load8_u_at(i0, frame, 8);
@@ -26254,7 +26169,7 @@ static void code_f51(uint8_t *const m, const u32 last, u64 p0, u64 p1, u64 p2, u
     i64_load_at(j1, frame, 16);
     j2 = l8;
     j3 = l7;
-    call(i0 = code_f49(m, last, j0, j1, j2, j3));
+    call(i0 = code_f48(m, last, j0, j1, j2, j3));
     if (i0) {goto B32;}
     B34:;
     j0 = p3;
@@ -26332,7 +26247,7 @@ static void code_f51(uint8_t *const m, const u32 last, u64 p0, u64 p1, u64 p2, u
   return;
 }
 
-static void code_f52(uint8_t *const m, const u32 last, u64 p0, u64 p1, u64 p2, u64 p3, u64 p4) {
+static void code_f51(uint8_t *const m, const u32 last, u64 p0, u64 p1, u64 p2, u64 p3, u64 p4) {
   u32 l9 = 0, l10 = 0, l11 = 0;
   u64 l5 = 0, l6 = 0, l7 = 0, l8 = 0;
   u32 i0, i1, i2, i3;
@@ -26358,7 +26273,7 @@ static void code_f52(uint8_t *const m, const u32 last, u64 p0, u64 p1, u64 p2, u
   j0 += j1;
   j1 = p1;
   j2 = p2;
-  call(code_f11(m, last, j0, j1, j2));
+  call(code_f10(m, last, j0, j1, j2));
   i0 = 0u;
   l9 = i0;
   j0 = l5;
@@ -26600,7 +26515,7 @@ static void code_f52(uint8_t *const m, const u32 last, u64 p0, u64 p1, u64 p2, u
   return;
 }
 
-static u32 code_f53(uint8_t *const m, const u32 last, u64 p0, u64 p1, u64 p2, u64 p3) {
+static u32 code_f52(uint8_t *const m, const u32 last, u64 p0, u64 p1, u64 p2, u64 p3) {
   u32 l8 = 0;
   u64 l4 = 0, l5 = 0, l6 = 0, l7 = 0;
   u32 i0, i1, i2, i3;
@@ -26644,7 +26559,7 @@ static u32 code_f53(uint8_t *const m, const u32 last, u64 p0, u64 p1, u64 p2, u6
     i1 = 61u;
     j2 = l6;
     j3 = l5;
-    call(code_f47(m, last, j0, i1, j2, j3));
+    call(code_f46(m, last, j0, i1, j2, j3));
     j0 = l4;
     i0 = (u32)(j0);
     i32_load8_u_at(i0, frame, 24);
@@ -26661,7 +26576,7 @@ static u32 code_f53(uint8_t *const m, const u32 last, u64 p0, u64 p1, u64 p2, u6
     i64_load_at(j1, frame, 32);
     j2 = p2;
     j3 = p3;
-    call(i0 = code_f49(m, last, j0, j1, j2, j3));
+    call(i0 = code_f48(m, last, j0, j1, j2, j3));
     if (i0) {goto B1;}
     B3:;
     j0 = p0;
@@ -26689,7 +26604,7 @@ static u32 code_f53(uint8_t *const m, const u32 last, u64 p0, u64 p1, u64 p2, u6
   j2 -= j3;
   j3 = 0ull;
   j4 = 4294967295ull;
-  call(code_f52(m, last, j0, j1, j2, j3, j4));
+  call(code_f51(m, last, j0, j1, j2, j3, j4));
   j0 = l4;
   i0 = (u32)(j0);
   i32_load_at(i0, frame, 16);
@@ -26713,7 +26628,7 @@ static u32 code_f53(uint8_t *const m, const u32 last, u64 p0, u64 p1, u64 p2, u6
   return 0;
 }
 
-static void code_f54(uint8_t *const m, const u32 last, u64 p0, u32 p1, u64 p2, u64 p3) {
+static void code_f53(uint8_t *const m, const u32 last, u64 p0, u32 p1, u64 p2, u64 p3) {
   u32 l6 = 0, l7 = 0, l8 = 0, l9 = 0, l10 = 0;
   u64 l4 = 0, l5 = 0;
   u32 i0, i1, i2, i3;
@@ -26958,7 +26873,7 @@ static void code_f54(uint8_t *const m, const u32 last, u64 p0, u32 p1, u64 p2, u
   return;
 }
 
-static void code_f55(uint8_t *const m, const u32 last, u64 p0, u64 p1) {
+static void code_f54(uint8_t *const m, const u32 last, u64 p0, u64 p1) {
   u32 l8 = 0;
   u64 l2 = 0, l3 = 0, l4 = 0, l5 = 0, l6 = 0, l7 = 0;
   u32 i0, i1, i2, i3, i4, i5;
@@ -27046,7 +26961,7 @@ static void code_f55(uint8_t *const m, const u32 last, u64 p0, u64 p1) {
   i4 = (u32)(j4);
   i64_load_at(j4, a1, 16);
   i5 = 0u;
-  call(code_f51(m, last, j0, j1, j2, j3, j4, i5));
+  call(code_f50(m, last, j0, j1, j2, j3, j4, i5));
   j0 = l2;
   j1 = 48ull;
   j0 += j1;
@@ -27059,7 +26974,7 @@ static void code_f55(uint8_t *const m, const u32 last, u64 p0, u64 p1) {
   i4 = (u32)(j4);
   i64_load_at(j4, a1, 16);
   i5 = 1u;
-  call(code_f51(m, last, j0, j1, j2, j3, j4, i5));
+  call(code_f50(m, last, j0, j1, j2, j3, j4, i5));
   j0 = l2;
   j1 = 24ull;
   j0 += j1;
@@ -27072,7 +26987,7 @@ static void code_f55(uint8_t *const m, const u32 last, u64 p0, u64 p1) {
   i4 = (u32)(j4);
   i64_load_at(j4, a1, 16);
   i5 = 2u;
-  call(code_f51(m, last, j0, j1, j2, j3, j4, i5));
+  call(code_f50(m, last, j0, j1, j2, j3, j4, i5));
   j0 = l2;
   i0 = (u32)(j0);
   i64_load_at(j0, frame, 32);
@@ -27095,7 +27010,7 @@ static void code_f55(uint8_t *const m, const u32 last, u64 p0, u64 p1) {
   i4 = (u32)(j4);
   i64_load_at(j4, a1, 16);
   i5 = 3u;
-  call(code_f51(m, last, j0, j1, j2, j3, j4, i5));
+  call(code_f50(m, last, j0, j1, j2, j3, j4, i5));
   j0 = p0;
   i0 = (u32)(j0);
   j1 = l2;
@@ -27178,7 +27093,7 @@ static void code_f55(uint8_t *const m, const u32 last, u64 p0, u64 p1) {
   return;
 }
 
-static void code_f56(uint8_t *const m, const u32 last, u64 p0, u64 p1, u32 p2, u64 p3) {
+static void code_f55(uint8_t *const m, const u32 last, u64 p0, u64 p1, u32 p2, u64 p3) {
   u32 l11 = 0, l12 = 0;
   u64 l4 = 0, l5 = 0, l6 = 0, l7 = 0, l8 = 0, l9 = 0, l10 = 0;
   u32 i0, i1, i2, i3;
@@ -27282,7 +27197,7 @@ static void code_f56(uint8_t *const m, const u32 last, u64 p0, u64 p1, u32 p2, u
   j0 = p1;
   j1 = 192ull;
   j0 += j1;
-  call(i0 = code_f57(m, last, j0));
+  call(i0 = code_f56(m, last, j0));
   i0 = !(i0);
   if (i0) {goto B10;}
   j0 = p1;
@@ -27318,7 +27233,7 @@ static void code_f56(uint8_t *const m, const u32 last, u64 p0, u64 p1, u32 p2, u
   i64_load_at(j2, a3, 8);
   j3 = p3;
   j4 = l6;
-  call(code_f35(m, last, j0, j1, j2, j3, j4));
+  call(code_f34(m, last, j0, j1, j2, j3, j4));
   j0 = l4;
   i0 = (u32)(j0);
   i32_load8_u_at(i0, frame, 24);
@@ -27473,7 +27388,7 @@ static void code_f56(uint8_t *const m, const u32 last, u64 p0, u64 p1, u32 p2, u
     j1 = 72ull;
     j0 += j1;
     j1 = l10;
-    call(i0 = code_f58(m, last, j0, j1));
+    call(i0 = code_f57(m, last, j0, j1));
     l12 = i0;
     j0 = l4;
     i0 = (u32)(j0);
@@ -27535,7 +27450,7 @@ static void code_f56(uint8_t *const m, const u32 last, u64 p0, u64 p1, u32 p2, u
     j4 = l6;
     j5 = p3;
     j4 -= j5;
-    call(code_f59(m, last, j0, j1, i2, j3, j4));
+    call(code_f58(m, last, j0, j1, i2, j3, j4));
     j0 = l4;
     i0 = (u32)(j0);
     i32_load8_u_at(i0, frame, 8);
@@ -27701,7 +27616,7 @@ static void code_f56(uint8_t *const m, const u32 last, u64 p0, u64 p1, u32 p2, u
   return;
 }
 
-static u32 code_f57(uint8_t *const m, const u32 last, u64 p0) {
+static u32 code_f56(uint8_t *const m, const u32 last, u64 p0) {
   u64 l1 = 0, l2 = 0, l3 = 0, l4 = 0, l5 = 0, l6 = 0, l7 = 0;
   u32 i0, i2, i3;
   u64 j0, j1, j2, j3;
@@ -27870,7 +27785,7 @@ static u32 code_f57(uint8_t *const m, const u32 last, u64 p0) {
   return 0;
 }
 
-static u32 code_f58(uint8_t *const m, const u32 last, u64 p0, u64 p1) {
+static u32 code_f57(uint8_t *const m, const u32 last, u64 p0, u64 p1) {
   u32 l6 = 0;
   u64 l2 = 0, l3 = 0, l4 = 0, l5 = 0;
   u32 i0, i1, i2;
@@ -27994,7 +27909,7 @@ static u32 code_f58(uint8_t *const m, const u32 last, u64 p0, u64 p1) {
   return 0;
 }
 
-static void code_f59(uint8_t *const m, const u32 last, u64 p0, u64 p1, u32 p2, u64 p3, u64 p4) {
+static void code_f58(uint8_t *const m, const u32 last, u64 p0, u64 p1, u32 p2, u64 p3, u64 p4) {
   u32 l14 = 0;
   u64 l5 = 0, l6 = 0, l7 = 0, l8 = 0, l9 = 0, l10 = 0, l11 = 0, l12 = 0, l13 = 0;
   u32 i0, i1, i2, i3, i4, i5;
@@ -28003,7 +27918,7 @@ static void code_f59(uint8_t *const m, const u32 last, u64 p0, u64 p1, u32 p2, u
   j0 = p1;
   j1 = 256ull;
   j0 += j1;
-  call(i0 = code_f57(m, last, j0));
+  call(i0 = code_f56(m, last, j0));
   i0 = !(i0);
   if (i0) {goto B1;}
   j0 = p1;
@@ -28303,7 +28218,7 @@ static void code_f59(uint8_t *const m, const u32 last, u64 p0, u64 p1, u32 p2, u
   return;
 }
 
-static void code_f60(uint8_t *const m, const u32 last, u64 p0, u64 p1, u64 p2, u64 p3) {
+static void code_f59(uint8_t *const m, const u32 last, u64 p0, u64 p1, u64 p2, u64 p3) {
   u32 l53 = 0, l54 = 0, l55 = 0, l56 = 0, l57 = 0, l58 = 0, l59 = 0, l60 = 0;
   u64 l4 = 0, l5 = 0, l6 = 0, l7 = 0, l8 = 0, l9 = 0, l10 = 0, l11 = 0, l12 = 0, l13 = 0, l14 = 0, l15 = 0, l16 = 0, l17 = 0, l18 = 0, l19 = 0, l20 = 0, l21 = 0, l22 = 0, l23 = 0, l24 = 0, l25 = 0, l26 = 0, l27 = 0, l28 = 0, l29 = 0, l30 = 0, l31 = 0, l32 = 0, l33 = 0, l34 = 0, l35 = 0, l36 = 0, l37 = 0, l38 = 0, l39 = 0, l40 = 0, l41 = 0, l42 = 0, l43 = 0, l44 = 0, l45 = 0, l46 = 0, l47 = 0, l48 = 0, l49 = 0, l50 = 0, l51 = 0, l52 = 0;
   u32 i0, i1, i2, i3, i4, i5, i6, i7;
@@ -29605,7 +29520,7 @@ static void code_f60(uint8_t *const m, const u32 last, u64 p0, u64 p1, u64 p2, u
   j0 += j1;
   j1 = p2;
   j2 = p1;
-  call(code_f61(m, last, j0, j1, j2));
+  call(code_f60(m, last, j0, j1, j2));
   j0 = l4;
   i0 = (u32)(j0);
   i32_load_at(i0, frame, 7272);
@@ -29647,19 +29562,19 @@ static void code_f60(uint8_t *const m, const u32 last, u64 p0, u64 p1, u64 p2, u
   j1 = l6;
   j2 = 1050733ull;
   j3 = 4ull;
-  call(i0 = code_f53(m, last, j0, j1, j2, j3));
+  call(i0 = code_f52(m, last, j0, j1, j2, j3));
   l53 = i0;
   j0 = l7;
   j1 = l6;
   j2 = 1050737ull;
   j3 = 6ull;
-  call(i0 = code_f53(m, last, j0, j1, j2, j3));
+  call(i0 = code_f52(m, last, j0, j1, j2, j3));
   l55 = i0;
   j0 = l7;
   j1 = l6;
   j2 = 1050743ull;
   j3 = 4ull;
-  call(i0 = code_f53(m, last, j0, j1, j2, j3));
+  call(i0 = code_f52(m, last, j0, j1, j2, j3));
   l56 = i0;
   j0 = l6;
   i0 = !(j0);
@@ -29699,7 +29614,7 @@ static void code_f60(uint8_t *const m, const u32 last, u64 p0, u64 p1, u64 p2, u
     i1 = 61u;
     j2 = p1;
     j3 = p2;
-    call(code_f47(m, last, j0, i1, j2, j3));
+    call(code_f46(m, last, j0, i1, j2, j3));
     j0 = l4;
     i0 = (u32)(j0);
     i32_load8_u_at(i0, frame, 24400);
@@ -29716,7 +29631,7 @@ static void code_f60(uint8_t *const m, const u32 last, u64 p0, u64 p1, u64 p2, u
     i64_load_at(j1, frame, 24408);
     j2 = 1050729ull;
     j3 = 4ull;
-    call(i0 = code_f49(m, last, j0, j1, j2, j3));
+    call(i0 = code_f48(m, last, j0, j1, j2, j3));
     if (i0) {goto B34;}
     B36:;
     j0 = l7;
@@ -29838,7 +29753,7 @@ static void code_f60(uint8_t *const m, const u32 last, u64 p0, u64 p1, u64 p2, u
   i1 = l53;
   j2 = l5;
   j3 = p2;
-  call(code_f54(m, last, j0, i1, j2, j3));
+  call(code_f53(m, last, j0, i1, j2, j3));
   j0 = l4;
   i0 = (u32)(j0);
   i32_load8_u_at(i0, frame, 24400);
@@ -29861,7 +29776,7 @@ static void code_f60(uint8_t *const m, const u32 last, u64 p0, u64 p1, u64 p2, u
   i3 = i3 != i4;
   i2 += i3;
   j2 = (u64)(i2);
-  call(i0 = code_f7(m, last, j0, j1, j2));
+  call(i0 = code_f6(m, last, j0, j1, j2));
   B39:;
   j0 = l4;
   i0 = (u32)(j0);
@@ -30183,7 +30098,7 @@ static void code_f60(uint8_t *const m, const u32 last, u64 p0, u64 p1, u64 p2, u
   j5 = l4;
   j6 = 6880ull;
   j5 += j6;
-  call(code_f62(m, last, j0, i1, i2, i3, j4, j5));
+  call(code_f61(m, last, j0, i1, i2, i3, j4, j5));
   j0 = l4;
   i0 = (u32)(j0);
   i32_load8_u_at(i0, frame, 7744);
@@ -31538,7 +31453,7 @@ static void code_f60(uint8_t *const m, const u32 last, u64 p0, u64 p1, u64 p2, u
   j0 += j1;
   j1 = p2;
   j2 = p1;
-  call(code_f63(m, last, j0, j1, j2));
+  call(code_f62(m, last, j0, j1, j2));
   j0 = l4;
   i0 = (u32)(j0);
   i32_load_at(i0, frame, 7752);
@@ -31551,7 +31466,7 @@ static void code_f60(uint8_t *const m, const u32 last, u64 p0, u64 p1, u64 p2, u
   j1 = l6;
   j2 = 1050743ull;
   j3 = 4ull;
-  call(i0 = code_f53(m, last, j0, j1, j2, j3));
+  call(i0 = code_f52(m, last, j0, j1, j2, j3));
   l54 = i0;
   j0 = l4;
   i0 = (u32)(j0);
@@ -31582,7 +31497,7 @@ static void code_f60(uint8_t *const m, const u32 last, u64 p0, u64 p1, u64 p2, u
   j2 = l4;
   j3 = 7264ull;
   j2 += j3;
-  call(code_f64(m, last, j0, i1, j2));
+  call(code_f63(m, last, j0, i1, j2));
   j0 = l4;
   i0 = (u32)(j0);
   i32_load8_u_at(i0, frame, 24400);
@@ -31990,13 +31905,13 @@ static void code_f60(uint8_t *const m, const u32 last, u64 p0, u64 p1, u64 p2, u
   j2 = l6;
   j3 = 1050733ull;
   j4 = 4ull;
-  call(i1 = code_f53(m, last, j1, j2, j3, j4));
+  call(i1 = code_f52(m, last, j1, j2, j3, j4));
   j2 = l7;
   j3 = l6;
   j4 = 1050743ull;
   j5 = 4ull;
-  call(i2 = code_f53(m, last, j2, j3, j4, j5));
-  call(code_f65(m, last, j0, i1, i2));
+  call(i2 = code_f52(m, last, j2, j3, j4, j5));
+  call(code_f64(m, last, j0, i1, i2));
   j0 = l4;
   i0 = (u32)(j0);
   j1 = l4;
@@ -32811,7 +32726,7 @@ static void code_f60(uint8_t *const m, const u32 last, u64 p0, u64 p1, u64 p2, u
   j1 = l6;
   j2 = 1050733ull;
   j3 = 4ull;
-  call(i0 = code_f53(m, last, j0, j1, j2, j3));
+  call(i0 = code_f52(m, last, j0, j1, j2, j3));
   l53 = i0;
   i1 = 3u;
   i0 >>= (i1 & 31);
@@ -32827,7 +32742,7 @@ static void code_f60(uint8_t *const m, const u32 last, u64 p0, u64 p1, u64 p2, u
   j1 = l6;
   j2 = 1050743ull;
   j3 = 4ull;
-  call(i0 = code_f53(m, last, j0, j1, j2, j3));
+  call(i0 = code_f52(m, last, j0, j1, j2, j3));
   l54 = i0;
   i0 = l53;
   i0 = !(i0);
@@ -33025,7 +32940,7 @@ static void code_f60(uint8_t *const m, const u32 last, u64 p0, u64 p1, u64 p2, u
   j1 = 24400ull;
   j0 += j1;
   i1 = l53;
-  call(code_f33(m, last, j0, i1));
+  call(code_f32(m, last, j0, i1));
   j0 = l4;
   i0 = (u32)(j0);
   i32_load8_u_at(i0, frame, 24400);
@@ -34388,26 +34303,26 @@ static void code_f60(uint8_t *const m, const u32 last, u64 p0, u64 p1, u64 p2, u
   j2 = l6;
   j3 = 1051173ull;
   j4 = 4ull;
-  call(i1 = code_f53(m, last, j1, j2, j3, j4));
+  call(i1 = code_f52(m, last, j1, j2, j3, j4));
   j2 = l7;
   j3 = l6;
   j4 = 1051177ull;
   j5 = 7ull;
-  call(i2 = code_f53(m, last, j2, j3, j4, j5));
+  call(i2 = code_f52(m, last, j2, j3, j4, j5));
   j3 = l7;
   j4 = l6;
   j5 = 1050733ull;
   j6 = 4ull;
-  call(i3 = code_f53(m, last, j3, j4, j5, j6));
+  call(i3 = code_f52(m, last, j3, j4, j5, j6));
   j4 = l7;
   j5 = l6;
   j6 = 1050737ull;
   j7 = 6ull;
-  call(i4 = code_f53(m, last, j4, j5, j6, j7));
+  call(i4 = code_f52(m, last, j4, j5, j6, j7));
   j5 = l4;
   j6 = 24400ull;
   j5 += j6;
-  call(code_f66(m, last, j0, i1, i2, i3, i4, j5));
+  call(code_f65(m, last, j0, i1, i2, i3, i4, j5));
   j0 = l4;
   i0 = (u32)(j0);
   i64_load_at(j0, frame, 24416);
@@ -34671,7 +34586,7 @@ static void code_f60(uint8_t *const m, const u32 last, u64 p0, u64 p1, u64 p2, u
   j1 = 24400ull;
   j0 += j1;
   j1 = p1;
-  call(code_f67(m, last, j0, j1));
+  call(code_f66(m, last, j0, j1));
   j0 = l4;
   j1 = 24400ull;
   j0 += j1;
@@ -34704,7 +34619,7 @@ static void code_f60(uint8_t *const m, const u32 last, u64 p0, u64 p1, u64 p2, u
   j1 = 7744ull;
   j0 += j1;
   j1 = p1;
-  call(i0 = code_f58(m, last, j0, j1));
+  call(i0 = code_f57(m, last, j0, j1));
   i0 = !(i0);
   if (i0) {goto B95;}
   j0 = l4;
@@ -34780,7 +34695,7 @@ static void code_f60(uint8_t *const m, const u32 last, u64 p0, u64 p1, u64 p2, u
   j1 = 24400ull;
   j0 += j1;
   j1 = p3;
-  call(code_f67(m, last, j0, j1));
+  call(code_f66(m, last, j0, j1));
   j0 = l4;
   j1 = 24400ull;
   j0 += j1;
@@ -34809,7 +34724,7 @@ static void code_f60(uint8_t *const m, const u32 last, u64 p0, u64 p1, u64 p2, u
   j1 = 7744ull;
   j0 += j1;
   j1 = p1;
-  call(i0 = code_f58(m, last, j0, j1));
+  call(i0 = code_f57(m, last, j0, j1));
   i0 = !(i0);
   if (i0) {goto B94;}
   j0 = l4;
@@ -34886,7 +34801,7 @@ static void code_f60(uint8_t *const m, const u32 last, u64 p0, u64 p1, u64 p2, u
   j1 = 24400ull;
   j0 += j1;
   j1 = l5;
-  call(code_f67(m, last, j0, j1));
+  call(code_f66(m, last, j0, j1));
   j0 = l4;
   j1 = 24400ull;
   j0 += j1;
@@ -34915,7 +34830,7 @@ static void code_f60(uint8_t *const m, const u32 last, u64 p0, u64 p1, u64 p2, u
   j1 = 7744ull;
   j0 += j1;
   j1 = p1;
-  call(i0 = code_f58(m, last, j0, j1));
+  call(i0 = code_f57(m, last, j0, j1));
   i0 = !(i0);
   if (i0) {goto B93;}
   j0 = l4;
@@ -34992,7 +34907,7 @@ static void code_f60(uint8_t *const m, const u32 last, u64 p0, u64 p1, u64 p2, u
   j1 = 24400ull;
   j0 += j1;
   j1 = l8;
-  call(code_f67(m, last, j0, j1));
+  call(code_f66(m, last, j0, j1));
   j0 = l4;
   j1 = 24400ull;
   j0 += j1;
@@ -35021,7 +34936,7 @@ static void code_f60(uint8_t *const m, const u32 last, u64 p0, u64 p1, u64 p2, u
   j1 = 7744ull;
   j0 += j1;
   j1 = p1;
-  call(i0 = code_f58(m, last, j0, j1));
+  call(i0 = code_f57(m, last, j0, j1));
   i0 = !(i0);
   if (i0) {goto B92;}
   j0 = l4;
@@ -35098,7 +35013,7 @@ static void code_f60(uint8_t *const m, const u32 last, u64 p0, u64 p1, u64 p2, u
   j1 = 24400ull;
   j0 += j1;
   j1 = l9;
-  call(code_f67(m, last, j0, j1));
+  call(code_f66(m, last, j0, j1));
   j0 = l4;
   j1 = 24400ull;
   j0 += j1;
@@ -35127,7 +35042,7 @@ static void code_f60(uint8_t *const m, const u32 last, u64 p0, u64 p1, u64 p2, u
   j1 = 7744ull;
   j0 += j1;
   j1 = p1;
-  call(i0 = code_f58(m, last, j0, j1));
+  call(i0 = code_f57(m, last, j0, j1));
   i0 = !(i0);
   if (i0) {goto B91;}
   j0 = l4;
@@ -35204,7 +35119,7 @@ static void code_f60(uint8_t *const m, const u32 last, u64 p0, u64 p1, u64 p2, u
   j1 = 24400ull;
   j0 += j1;
   j1 = l10;
-  call(code_f67(m, last, j0, j1));
+  call(code_f66(m, last, j0, j1));
   j0 = l4;
   j1 = 24400ull;
   j0 += j1;
@@ -35233,7 +35148,7 @@ static void code_f60(uint8_t *const m, const u32 last, u64 p0, u64 p1, u64 p2, u
   j1 = 7744ull;
   j0 += j1;
   j1 = p1;
-  call(i0 = code_f58(m, last, j0, j1));
+  call(i0 = code_f57(m, last, j0, j1));
   i0 = !(i0);
   if (i0) {goto B90;}
   j0 = l4;
@@ -35310,7 +35225,7 @@ static void code_f60(uint8_t *const m, const u32 last, u64 p0, u64 p1, u64 p2, u
   j1 = 24400ull;
   j0 += j1;
   j1 = l13;
-  call(code_f67(m, last, j0, j1));
+  call(code_f66(m, last, j0, j1));
   j0 = l4;
   j1 = 24400ull;
   j0 += j1;
@@ -35339,7 +35254,7 @@ static void code_f60(uint8_t *const m, const u32 last, u64 p0, u64 p1, u64 p2, u
   j1 = 7744ull;
   j0 += j1;
   j1 = p1;
-  call(i0 = code_f58(m, last, j0, j1));
+  call(i0 = code_f57(m, last, j0, j1));
   i0 = !(i0);
   if (i0) {goto B89;}
   j0 = l4;
@@ -35747,7 +35662,7 @@ static void code_f60(uint8_t *const m, const u32 last, u64 p0, u64 p1, u64 p2, u
   j1 += j2;
   j2 = p1;
   j3 = l7;
-  call(code_f68(m, last, j0, j1, j2, j3));
+  call(code_f67(m, last, j0, j1, j2, j3));
   j0 = 0ull;
   p1 = j0;
   j0 = l4;
@@ -35829,7 +35744,7 @@ static void code_f60(uint8_t *const m, const u32 last, u64 p0, u64 p1, u64 p2, u
   j1 = l4;
   j2 = 24400ull;
   j1 += j2;
-  call(code_f69(m, last, j0, j1));
+  call(code_f68(m, last, j0, j1));
   j0 = l4;
   i0 = (u32)(j0);
   i32_load8_u_at(i0, frame, 7264);
@@ -35904,7 +35819,7 @@ static void code_f60(uint8_t *const m, const u32 last, u64 p0, u64 p1, u64 p2, u
     i64_load_at(j2, a19, 0);
     j3 = 0ull;
     j4 = 2046ull;
-    call(code_f52(m, last, j0, j1, j2, j3, j4));
+    call(code_f51(m, last, j0, j1, j2, j3, j4));
     j0 = l4;
     i0 = (u32)(j0);
     i32_load8_u_at(i0, frame, 168);
@@ -35933,7 +35848,7 @@ static void code_f60(uint8_t *const m, const u32 last, u64 p0, u64 p1, u64 p2, u
     j2 -= j3;
     j3 = 1ull;
     j4 = 49152ull;
-    call(code_f52(m, last, j0, j1, j2, j3, j4));
+    call(code_f51(m, last, j0, j1, j2, j3, j4));
     j0 = l4;
     i0 = (u32)(j0);
     i32_load8_u_at(i0, frame, 152);
@@ -36244,7 +36159,7 @@ static void code_f60(uint8_t *const m, const u32 last, u64 p0, u64 p1, u64 p2, u
     j0 = l4;
     j1 = 6880ull;
     j0 += j1;
-    call(i0 = code_f70(m, last, j0));
+    call(i0 = code_f69(m, last, j0));
     i0 = !(i0);
     if (i0) {goto B116;}
     j0 = l4;
@@ -36295,7 +36210,7 @@ static void code_f60(uint8_t *const m, const u32 last, u64 p0, u64 p1, u64 p2, u
     j1 = l4;
     j2 = 24400ull;
     j1 += j2;
-    call(code_f69(m, last, j0, j1));
+    call(code_f68(m, last, j0, j1));
     j0 = l4;
     i0 = (u32)(j0);
     i32_load8_u_at(i0, frame, 7264);
@@ -36741,7 +36656,7 @@ static void code_f60(uint8_t *const m, const u32 last, u64 p0, u64 p1, u64 p2, u
     j1 = l5;
     i1 = (u32)(j1);
     i32_load(i1, i1, 0);
-    call(code_f33(m, last, j0, i1));
+    call(code_f32(m, last, j0, i1));
     j0 = l4;
     i0 = (u32)(j0);
     i32_load8_u_at(i0, frame, 24400);
@@ -36841,7 +36756,7 @@ static void code_f60(uint8_t *const m, const u32 last, u64 p0, u64 p1, u64 p2, u
   j0 = l4;
   j1 = 7744ull;
   j0 += j1;
-  call(code_f71(m, last, j0));
+  call(code_f70(m, last, j0));
   B111:;
   j0 = l9;
   call(heap_dealloc(m, last, j0));
@@ -36935,19 +36850,19 @@ static void code_f60(uint8_t *const m, const u32 last, u64 p0, u64 p1, u64 p2, u
   j1 = l6;
   j2 = 1050733ull;
   j3 = 4ull;
-  call(i0 = code_f53(m, last, j0, j1, j2, j3));
+  call(i0 = code_f52(m, last, j0, j1, j2, j3));
   l53 = i0;
   j0 = l7;
   j1 = l6;
   j2 = 1050743ull;
   j3 = 4ull;
-  call(i0 = code_f53(m, last, j0, j1, j2, j3));
+  call(i0 = code_f52(m, last, j0, j1, j2, j3));
   l55 = i0;
   j0 = l7;
   j1 = l6;
   j2 = 1051545ull;
   j3 = 6ull;
-  call(i0 = code_f53(m, last, j0, j1, j2, j3));
+  call(i0 = code_f52(m, last, j0, j1, j2, j3));
   l54 = i0;
   j0 = l4;
   i0 = (u32)(j0);
@@ -37340,7 +37255,7 @@ static void code_f60(uint8_t *const m, const u32 last, u64 p0, u64 p1, u64 p2, u
   j1 = 24400ull;
   j0 += j1;
   i1 = l53;
-  call(code_f33(m, last, j0, i1));
+  call(code_f32(m, last, j0, i1));
   j0 = l4;
   i0 = (u32)(j0);
   i32_load8_u_at(i0, frame, 24400);
@@ -37375,7 +37290,7 @@ static void code_f60(uint8_t *const m, const u32 last, u64 p0, u64 p1, u64 p2, u
   j0 = l4;
   j1 = 6880ull;
   j0 += j1;
-  call(code_f72(m, last, j0));
+  call(code_f71(m, last, j0));
   goto B166;
   B170:;
   j0 = l4;
@@ -37401,7 +37316,7 @@ static void code_f60(uint8_t *const m, const u32 last, u64 p0, u64 p1, u64 p2, u
   j0 = l4;
   j1 = 24400ull;
   j0 += j1;
-  call(code_f72(m, last, j0));
+  call(code_f71(m, last, j0));
   B169:;
   i0 = l53;
   i0 = !(i0);
@@ -39269,7 +39184,7 @@ static void code_f60(uint8_t *const m, const u32 last, u64 p0, u64 p1, u64 p2, u
   j1 = l6;
   j2 = 1050733ull;
   j3 = 4ull;
-  call(i0 = code_f53(m, last, j0, j1, j2, j3));
+  call(i0 = code_f52(m, last, j0, j1, j2, j3));
   l59 = i0;
   j0 = p2;
   j1 = 8ull;
@@ -39342,7 +39257,7 @@ static void code_f60(uint8_t *const m, const u32 last, u64 p0, u64 p1, u64 p2, u
   j1 += j2;
   j2 = p1;
   j3 = l7;
-  call(code_f68(m, last, j0, j1, j2, j3));
+  call(code_f67(m, last, j0, j1, j2, j3));
   j0 = 0ull;
   l6 = j0;
   j0 = l4;
@@ -39424,7 +39339,7 @@ static void code_f60(uint8_t *const m, const u32 last, u64 p0, u64 p1, u64 p2, u
   j1 = l4;
   j2 = 24400ull;
   j1 += j2;
-  call(code_f69(m, last, j0, j1));
+  call(code_f68(m, last, j0, j1));
   j0 = l4;
   i0 = (u32)(j0);
   i32_load8_u_at(i0, frame, 7264);
@@ -39723,7 +39638,7 @@ static void code_f60(uint8_t *const m, const u32 last, u64 p0, u64 p1, u64 p2, u
     j2 -= j3;
     j3 = 0ull;
     j4 = l14;
-    call(code_f52(m, last, j0, j1, j2, j3, j4));
+    call(code_f51(m, last, j0, j1, j2, j3, j4));
     j0 = l4;
     i0 = (u32)(j0);
     i32_load8_u_at(i0, frame, 328);
@@ -39769,7 +39684,7 @@ static void code_f60(uint8_t *const m, const u32 last, u64 p0, u64 p1, u64 p2, u
     i6 = i6 < i7;
     i4 = i6 ? i4 : i5;
     j4 = (u64)(i4);
-    call(code_f52(m, last, j0, j1, j2, j3, j4));
+    call(code_f51(m, last, j0, j1, j2, j3, j4));
     j0 = l4;
     i0 = (u32)(j0);
     i32_load8_u_at(i0, frame, 312);
@@ -39999,7 +39914,7 @@ static void code_f60(uint8_t *const m, const u32 last, u64 p0, u64 p1, u64 p2, u
       j1 = l4;
       j2 = 6504ull;
       j1 += j2;
-      call(i0 = code_f73(m, last, j0, j1));
+      call(i0 = code_f72(m, last, j0, j1));
       if (i0) {goto B188;}
       B202:;
       j0 = l7;
@@ -40317,7 +40232,7 @@ static void code_f60(uint8_t *const m, const u32 last, u64 p0, u64 p1, u64 p2, u
     j2 += j3;
     j3 = 1ull;
     j4 = 9223372036854775808ull;
-    call(code_f52(m, last, j0, j1, j2, j3, j4));
+    call(code_f51(m, last, j0, j1, j2, j3, j4));
     j0 = l4;
     i0 = (u32)(j0);
     i32_load8_u_at(i0, frame, 392);
@@ -40349,7 +40264,7 @@ static void code_f60(uint8_t *const m, const u32 last, u64 p0, u64 p1, u64 p2, u
     j2 = l36;
     j3 = 0ull;
     j4 = 18446744073709551615ull;
-    call(code_f52(m, last, j0, j1, j2, j3, j4));
+    call(code_f51(m, last, j0, j1, j2, j3, j4));
     j0 = l4;
     i0 = (u32)(j0);
     i32_load8_u_at(i0, frame, 376);
@@ -40400,7 +40315,7 @@ static void code_f60(uint8_t *const m, const u32 last, u64 p0, u64 p1, u64 p2, u
     j2 += j3;
     j3 = 1ull;
     j4 = 9223372036854775808ull;
-    call(code_f52(m, last, j0, j1, j2, j3, j4));
+    call(code_f51(m, last, j0, j1, j2, j3, j4));
     j0 = l4;
     i0 = (u32)(j0);
     i32_load8_u_at(i0, frame, 360);
@@ -40432,7 +40347,7 @@ static void code_f60(uint8_t *const m, const u32 last, u64 p0, u64 p1, u64 p2, u
     j2 = l15;
     j3 = 0ull;
     j4 = 18446744073709551615ull;
-    call(code_f52(m, last, j0, j1, j2, j3, j4));
+    call(code_f51(m, last, j0, j1, j2, j3, j4));
     j0 = l4;
     i0 = (u32)(j0);
     i32_load8_u_at(i0, frame, 344);
@@ -40462,7 +40377,7 @@ static void code_f60(uint8_t *const m, const u32 last, u64 p0, u64 p1, u64 p2, u
       j1 = l4;
       j2 = 6504ull;
       j1 += j2;
-      call(i0 = code_f73(m, last, j0, j1));
+      call(i0 = code_f72(m, last, j0, j1));
       i0 = !(i0);
       if (i0) {goto B212;}
       j0 = l10;
@@ -40481,7 +40396,7 @@ static void code_f60(uint8_t *const m, const u32 last, u64 p0, u64 p1, u64 p2, u
         j1 = l4;
         j2 = 6504ull;
         j1 += j2;
-        call(i0 = code_f73(m, last, j0, j1));
+        call(i0 = code_f72(m, last, j0, j1));
         if (i0) {goto B188;}
         B214:;
         j0 = l7;
@@ -40906,7 +40821,7 @@ static void code_f60(uint8_t *const m, const u32 last, u64 p0, u64 p1, u64 p2, u
     j0 = l4;
     j1 = 7232ull;
     j0 += j1;
-    call(i0 = code_f74(m, last, j0));
+    call(i0 = code_f73(m, last, j0));
     i0 = !(i0);
     if (i0) {goto B233;}
     j0 = l4;
@@ -41159,7 +41074,7 @@ static void code_f60(uint8_t *const m, const u32 last, u64 p0, u64 p1, u64 p2, u
     j1 = l4;
     j2 = 24400ull;
     j1 += j2;
-    call(code_f69(m, last, j0, j1));
+    call(code_f68(m, last, j0, j1));
     j0 = l4;
     i0 = (u32)(j0);
     i32_load8_u_at(i0, frame, 7264);
@@ -41372,7 +41287,7 @@ static void code_f60(uint8_t *const m, const u32 last, u64 p0, u64 p1, u64 p2, u
     j0 = l4;
     j1 = 7744ull;
     j0 += j1;
-    call(i0 = code_f75(m, last, j0));
+    call(i0 = code_f74(m, last, j0));
     i0 = !(i0);
     if (i0) {goto B252;}
     j0 = l4;
@@ -41461,7 +41376,7 @@ static void code_f60(uint8_t *const m, const u32 last, u64 p0, u64 p1, u64 p2, u
     j0 = l4;
     j1 = 7768ull;
     j0 += j1;
-    call(i0 = code_f76(m, last, j0));
+    call(i0 = code_f75(m, last, j0));
     i0 = !(i0);
     if (i0) {goto B252;}
     j0 = l4;
@@ -41737,7 +41652,7 @@ static void code_f60(uint8_t *const m, const u32 last, u64 p0, u64 p1, u64 p2, u
     j0 = l4;
     j1 = 6504ull;
     j0 += j1;
-    call(i0 = code_f77(m, last, j0));
+    call(i0 = code_f76(m, last, j0));
     i0 = !(i0);
     if (i0) {goto B262;}
     j0 = l4;
@@ -42104,7 +42019,7 @@ static void code_f60(uint8_t *const m, const u32 last, u64 p0, u64 p1, u64 p2, u
       j0 = l7;
       j1 = p1;
       j2 = l9;
-      call(i0 = code_f6(m, last, j0, j1, j2));
+      call(i0 = code_f5(m, last, j0, j1, j2));
       if (i0) {goto B269;}
       B277:;
       j0 = l7;
@@ -42272,7 +42187,7 @@ static void code_f60(uint8_t *const m, const u32 last, u64 p0, u64 p1, u64 p2, u
     j0 = l4;
     j1 = 6504ull;
     j0 += j1;
-    call(i0 = code_f77(m, last, j0));
+    call(i0 = code_f76(m, last, j0));
     i0 = !(i0);
     if (i0) {goto B262;}
     j0 = l4;
@@ -42433,7 +42348,7 @@ static void code_f60(uint8_t *const m, const u32 last, u64 p0, u64 p1, u64 p2, u
   j1 = 760ull;
   j0 += j1;
   j1 = p1;
-  call(code_f55(m, last, j0, j1));
+  call(code_f54(m, last, j0, j1));
   j0 = p2;
   j1 = 8ull;
   j0 += j1;
@@ -42534,7 +42449,7 @@ static void code_f60(uint8_t *const m, const u32 last, u64 p0, u64 p1, u64 p2, u
   j0 += j1;
   j1 = p2;
   j2 = p1;
-  call(code_f61(m, last, j0, j1, j2));
+  call(code_f60(m, last, j0, j1, j2));
   j0 = l4;
   i0 = (u32)(j0);
   i32_load_at(i0, frame, 6888);
@@ -42623,7 +42538,7 @@ static void code_f60(uint8_t *const m, const u32 last, u64 p0, u64 p1, u64 p2, u
   j3 = l4;
   j4 = 7264ull;
   j3 += j4;
-  call(code_f56(m, last, j0, j1, i2, j3));
+  call(code_f55(m, last, j0, j1, i2, j3));
   j0 = l8;
   j1 = 32ull;
   j0 <<= (j1 & 63);
@@ -42663,7 +42578,7 @@ static void code_f60(uint8_t *const m, const u32 last, u64 p0, u64 p1, u64 p2, u
   j2 = l4;
   i2 = (u32)(j2);
   i64_load_at(j2, frame, 24416);
-  call(code_f63(m, last, j0, j1, j2));
+  call(code_f62(m, last, j0, j1, j2));
   j0 = l4;
   i0 = (u32)(j0);
   i32_load8_u_at(i0, frame, 7744);
@@ -42706,13 +42621,13 @@ static void code_f60(uint8_t *const m, const u32 last, u64 p0, u64 p1, u64 p2, u
   j1 = l6;
   j2 = 1051177ull;
   j3 = 7ull;
-  call(i0 = code_f53(m, last, j0, j1, j2, j3));
+  call(i0 = code_f52(m, last, j0, j1, j2, j3));
   l54 = i0;
   j0 = l7;
   j1 = l6;
   j2 = 1050737ull;
   j3 = 6ull;
-  call(i0 = code_f53(m, last, j0, j1, j2, j3));
+  call(i0 = code_f52(m, last, j0, j1, j2, j3));
   l53 = i0;
   j0 = l4;
   i0 = (u32)(j0);
@@ -42834,7 +42749,7 @@ static void code_f60(uint8_t *const m, const u32 last, u64 p0, u64 p1, u64 p2, u
   j1 = l4;
   j2 = 7616ull;
   j1 += j2;
-  call(code_f78(m, last, j0, j1));
+  call(code_f77(m, last, j0, j1));
   j0 = l4;
   i0 = (u32)(j0);
   i32_load8_u_at(i0, frame, 24400);
@@ -43001,7 +42916,7 @@ static void code_f60(uint8_t *const m, const u32 last, u64 p0, u64 p1, u64 p2, u
   j1 = l4;
   j2 = 7704ull;
   j1 += j2;
-  call(code_f79(m, last, j0, j1));
+  call(code_f78(m, last, j0, j1));
   j0 = l4;
   i0 = (u32)(j0);
   i32_load8_u_at(i0, frame, 7744);
@@ -44028,7 +43943,7 @@ static void code_f60(uint8_t *const m, const u32 last, u64 p0, u64 p1, u64 p2, u
   j0 = l4;
   j1 = 7264ull;
   j0 += j1;
-  call(code_f71(m, last, j0));
+  call(code_f70(m, last, j0));
   j0 = l9;
   call(heap_dealloc(m, last, j0));
   j0 = l6;
@@ -44697,7 +44612,7 @@ static void code_f60(uint8_t *const m, const u32 last, u64 p0, u64 p1, u64 p2, u
   return;
 }
 
-static void code_f61(uint8_t *const m, const u32 last, u64 p0, u64 p1, u64 p2) {
+static void code_f60(uint8_t *const m, const u32 last, u64 p0, u64 p1, u64 p2) {
   u32 l20 = 0, l21 = 0, l22 = 0;
   u64 l3 = 0, l4 = 0, l5 = 0, l6 = 0, l7 = 0, l8 = 0, l9 = 0, l10 = 0, l11 = 0, l12 = 0, l13 = 0, l14 = 0, l15 = 0, l16 = 0, l17 = 0, l18 = 0, l19 = 0;
   u32 i0, i1, i2, i3;
@@ -44784,7 +44699,7 @@ static void code_f61(uint8_t *const m, const u32 last, u64 p0, u64 p1, u64 p2) {
   j1 += j2;
   j2 = p1;
   j3 = p2;
-  call(code_f68(m, last, j0, j1, j2, j3));
+  call(code_f67(m, last, j0, j1, j2, j3));
   j0 = l3;
   i0 = (u32)(j0);
   j1 = 0ull;
@@ -44864,7 +44779,7 @@ static void code_f61(uint8_t *const m, const u32 last, u64 p0, u64 p1, u64 p2) {
   j1 = l3;
   j2 = 16920ull;
   j1 += j2;
-  call(code_f69(m, last, j0, j1));
+  call(code_f68(m, last, j0, j1));
   j0 = l3;
   i0 = (u32)(j0);
   i32_load8_u_at(i0, frame, 56);
@@ -45069,7 +44984,7 @@ static void code_f61(uint8_t *const m, const u32 last, u64 p0, u64 p1, u64 p2) {
     j1 = l3;
     j2 = 16840ull;
     j1 += j2;
-    call(code_f80(m, last, j0, j1));
+    call(code_f79(m, last, j0, j1));
     j0 = l3;
     i0 = (u32)(j0);
     i32_load8_u_at(i0, frame, 33688);
@@ -45101,7 +45016,7 @@ static void code_f61(uint8_t *const m, const u32 last, u64 p0, u64 p1, u64 p2) {
     j2 = 16840ull;
     j1 += j2;
     j2 = 0ull;
-    call(code_f81(m, last, j0, j1, j2));
+    call(code_f80(m, last, j0, j1, j2));
     j0 = l3;
     i0 = (u32)(j0);
     i32_load8_u_at(i0, frame, 33712);
@@ -45546,7 +45461,7 @@ static void code_f61(uint8_t *const m, const u32 last, u64 p0, u64 p1, u64 p2) {
     j0 = l3;
     j1 = 33664ull;
     j0 += j1;
-    call(i0 = code_f82(m, last, j0));
+    call(i0 = code_f81(m, last, j0));
     i0 = !(i0);
     if (i0) {goto B6;}
     j0 = l3;
@@ -45615,7 +45530,7 @@ static void code_f61(uint8_t *const m, const u32 last, u64 p0, u64 p1, u64 p2) {
     j1 = l3;
     j2 = 16920ull;
     j1 += j2;
-    call(code_f69(m, last, j0, j1));
+    call(code_f68(m, last, j0, j1));
     j0 = l3;
     i0 = (u32)(j0);
     i32_load8_u_at(i0, frame, 56);
@@ -46067,7 +45982,7 @@ static void code_f61(uint8_t *const m, const u32 last, u64 p0, u64 p1, u64 p2) {
     j1 = 184ull;
     j0 += j1;
     j1 = 1ull;
-    call(i0 = code_f83(m, last, j0, j1));
+    call(i0 = code_f82(m, last, j0, j1));
     i0 = !(i0);
     if (i0) {goto B63;}
     j0 = l3;
@@ -46152,7 +46067,7 @@ static void code_f61(uint8_t *const m, const u32 last, u64 p0, u64 p1, u64 p2) {
     j1 = 56ull;
     j0 += j1;
     j1 = 1ull;
-    call(i0 = code_f84(m, last, j0, j1));
+    call(i0 = code_f83(m, last, j0, j1));
     i0 = !(i0);
     if (i0) {goto B3;}
     j0 = l3;
@@ -46463,7 +46378,7 @@ static void code_f61(uint8_t *const m, const u32 last, u64 p0, u64 p1, u64 p2) {
   return;
 }
 
-static void code_f62(uint8_t *const m, const u32 last, u64 p0, u32 p1, u32 p2, u32 p3, u64 p4, u64 p5) {
+static void code_f61(uint8_t *const m, const u32 last, u64 p0, u32 p1, u32 p2, u32 p3, u64 p4, u64 p5) {
   u32 l67 = 0, l68 = 0, l69 = 0, l70 = 0, l71 = 0;
   u64 l6 = 0, l7 = 0, l8 = 0, l9 = 0, l10 = 0, l11 = 0, l12 = 0, l13 = 0, l14 = 0, l15 = 0, l16 = 0, l17 = 0, l18 = 0, l19 = 0, l20 = 0, l21 = 0, l22 = 0, l23 = 0, l24 = 0, l25 = 0, l26 = 0, l27 = 0, l28 = 0, l29 = 0, l30 = 0, l31 = 0, l32 = 0, l33 = 0, l34 = 0, l35 = 0, l36 = 0, l37 = 0, l38 = 0, l39 = 0, l40 = 0, l41 = 0, l42 = 0, l43 = 0, l44 = 0, l45 = 0, l46 = 0, l47 = 0, l48 = 0, l49 = 0, l50 = 0, l51 = 0, l52 = 0, l53 = 0, l54 = 0, l55 = 0, l56 = 0, l57 = 0, l58 = 0, l59 = 0, l60 = 0, l61 = 0, l62 = 0, l63 = 0, l64 = 0, l65 = 0, l66 = 0;
   u32 i0, i1, i2, i3, i6;
@@ -46957,7 +46872,7 @@ static void code_f62(uint8_t *const m, const u32 last, u64 p0, u32 p1, u32 p2, u
   j1 = l6;
   j2 = 568ull;
   j1 += j2;
-  call(code_f78(m, last, j0, j1));
+  call(code_f77(m, last, j0, j1));
   j0 = l6;
   i0 = (u32)(j0);
   i32_load8_u_at(i0, frame, 616);
@@ -47666,7 +47581,7 @@ static void code_f62(uint8_t *const m, const u32 last, u64 p0, u32 p1, u32 p2, u
   j0 = l6;
   j1 = 944ull;
   j0 += j1;
-  call(code_f45(m, last, j0));
+  call(code_f44(m, last, j0));
   goto B39;
   B41:;
   j0 = 0ull;
@@ -47837,7 +47752,7 @@ static void code_f62(uint8_t *const m, const u32 last, u64 p0, u32 p1, u32 p2, u
   j0 = l6;
   j1 = 976ull;
   j0 += j1;
-  call(code_f45(m, last, j0));
+  call(code_f44(m, last, j0));
   goto B39;
   B52:;
   j0 = l6;
@@ -47887,7 +47802,7 @@ static void code_f62(uint8_t *const m, const u32 last, u64 p0, u32 p1, u32 p2, u
   j0 = l6;
   j1 = 912ull;
   j0 += j1;
-  call(code_f45(m, last, j0));
+  call(code_f44(m, last, j0));
   j0 = l59;
   call(heap_dealloc(m, last, j0));
   B39:;
@@ -47964,7 +47879,7 @@ static void code_f62(uint8_t *const m, const u32 last, u64 p0, u32 p1, u32 p2, u
     j1 = 976ull;
     j0 += j1;
     j1 = 0ull;
-    call(code_f26(m, last, j0, j1));
+    call(code_f25(m, last, j0, j1));
     j0 = l10;
     i0 = (u32)(j0);
     j1 = l6;
@@ -49769,7 +49684,7 @@ static void code_f62(uint8_t *const m, const u32 last, u64 p0, u32 p1, u32 p2, u
   return;
 }
 
-static void code_f63(uint8_t *const m, const u32 last, u64 p0, u64 p1, u64 p2) {
+static void code_f62(uint8_t *const m, const u32 last, u64 p0, u64 p1, u64 p2) {
   u32 l14 = 0, l15 = 0, l16 = 0;
   u64 l3 = 0, l4 = 0, l5 = 0, l6 = 0, l7 = 0, l8 = 0, l9 = 0, l10 = 0, l11 = 0, l12 = 0, l13 = 0;
   u32 i0, i1, i2;
@@ -49842,7 +49757,7 @@ static void code_f63(uint8_t *const m, const u32 last, u64 p0, u64 p1, u64 p2) {
   j1 += j2;
   j2 = p1;
   j3 = p2;
-  call(code_f68(m, last, j0, j1, j2, j3));
+  call(code_f67(m, last, j0, j1, j2, j3));
   j0 = l3;
   i0 = (u32)(j0);
   j1 = 0ull;
@@ -49922,7 +49837,7 @@ static void code_f63(uint8_t *const m, const u32 last, u64 p0, u64 p1, u64 p2) {
   j1 = l3;
   j2 = 16912ull;
   j1 += j2;
-  call(code_f69(m, last, j0, j1));
+  call(code_f68(m, last, j0, j1));
   j0 = l3;
   i0 = (u32)(j0);
   i32_load8_u_at(i0, frame, 48);
@@ -50133,7 +50048,7 @@ static void code_f63(uint8_t *const m, const u32 last, u64 p0, u64 p1, u64 p2) {
     j2 = 16832ull;
     j1 += j2;
     j2 = 1ull;
-    call(code_f81(m, last, j0, j1, j2));
+    call(code_f80(m, last, j0, j1, j2));
     j0 = l3;
     i0 = (u32)(j0);
     i32_load8_u_at(i0, frame, 33680);
@@ -50222,7 +50137,7 @@ static void code_f63(uint8_t *const m, const u32 last, u64 p0, u64 p1, u64 p2) {
     j2 = 16832ull;
     j1 += j2;
     j2 = 1ull;
-    call(code_f81(m, last, j0, j1, j2));
+    call(code_f80(m, last, j0, j1, j2));
     j0 = l3;
     i0 = (u32)(j0);
     i32_load8_u_at(i0, frame, 33680);
@@ -50256,7 +50171,7 @@ static void code_f63(uint8_t *const m, const u32 last, u64 p0, u64 p1, u64 p2) {
     j2 -= j3;
     j3 = 1ull;
     j4 = 8ull;
-    call(code_f52(m, last, j0, j1, j2, j3, j4));
+    call(code_f51(m, last, j0, j1, j2, j3, j4));
     i0 = 1u;
     l15 = i0;
     j0 = l3;
@@ -50561,7 +50476,7 @@ static void code_f63(uint8_t *const m, const u32 last, u64 p0, u64 p1, u64 p2) {
     j1 = 33656ull;
     j0 += j1;
     j1 = 1ull;
-    call(i0 = code_f112(m, last, j0, j1));
+    call(i0 = code_f111(m, last, j0, j1));
     i0 = !(i0);
     if (i0) {goto B34;}
     j0 = l3;
@@ -50739,7 +50654,7 @@ static void code_f63(uint8_t *const m, const u32 last, u64 p0, u64 p1, u64 p2) {
     j1 = l3;
     j2 = 16912ull;
     j1 += j2;
-    call(code_f69(m, last, j0, j1));
+    call(code_f68(m, last, j0, j1));
     j0 = l3;
     i0 = (u32)(j0);
     i32_load8_u_at(i0, frame, 48);
@@ -50937,7 +50852,7 @@ static void code_f63(uint8_t *const m, const u32 last, u64 p0, u64 p1, u64 p2) {
   return;
 }
 
-static void code_f64(uint8_t *const m, const u32 last, u64 p0, u32 p1, u64 p2) {
+static void code_f63(uint8_t *const m, const u32 last, u64 p0, u32 p1, u64 p2) {
   u32 l11 = 0;
   u64 l3 = 0, l4 = 0, l5 = 0, l6 = 0, l7 = 0, l8 = 0, l9 = 0, l10 = 0;
   u32 i0, i1, i2;
@@ -51152,7 +51067,7 @@ static void code_f64(uint8_t *const m, const u32 last, u64 p0, u32 p1, u64 p2) {
   j1 = l3;
   j2 = 504ull;
   j1 += j2;
-  call(code_f79(m, last, j0, j1));
+  call(code_f78(m, last, j0, j1));
   j0 = l3;
   i0 = (u32)(j0);
   i32_load8_u_at(i0, frame, 408);
@@ -52010,7 +51925,7 @@ static void code_f64(uint8_t *const m, const u32 last, u64 p0, u32 p1, u64 p2) {
   return;
 }
 
-static void code_f65(uint8_t *const m, const u32 last, u64 p0, u32 p1, u32 p2) {
+static void code_f64(uint8_t *const m, const u32 last, u64 p0, u32 p1, u32 p2) {
   u64 l3 = 0, l4 = 0, l5 = 0, l6 = 0, l7 = 0, l8 = 0, l9 = 0, l10 = 0, l11 = 0;
   u32 i0, i1, i2;
   u64 j0, j1, j2;
@@ -52148,7 +52063,7 @@ static void code_f65(uint8_t *const m, const u32 last, u64 p0, u32 p1, u32 p2) {
   j1 = 1168ull;
   j0 += j1;
   i1 = p1;
-  call(code_f33(m, last, j0, i1));
+  call(code_f32(m, last, j0, i1));
   j0 = l3;
   i0 = (u32)(j0);
   i32_load8_u_at(i0, frame, 1168);
@@ -52595,7 +52510,7 @@ static void code_f65(uint8_t *const m, const u32 last, u64 p0, u32 p1, u32 p2) {
   return;
 }
 
-static void code_f66(uint8_t *const m, const u32 last, u64 p0, u32 p1, u32 p2, u32 p3, u32 p4, u64 p5) {
+static void code_f65(uint8_t *const m, const u32 last, u64 p0, u32 p1, u32 p2, u32 p3, u32 p4, u64 p5) {
   u32 l215 = 0, l216 = 0, l217 = 0, l218 = 0, l219 = 0, l220 = 0;
   u64 l6 = 0, l7 = 0, l8 = 0, l9 = 0, l10 = 0, l11 = 0, l12 = 0, l13 = 0, l14 = 0, l15 = 0, l16 = 0, l17 = 0, l18 = 0, l19 = 0, l20 = 0, l21 = 0, l22 = 0, l23 = 0, l24 = 0, l25 = 0, l26 = 0, l27 = 0, l28 = 0, l29 = 0, l30 = 0, l31 = 0, l32 = 0, l33 = 0, l34 = 0, l35 = 0, l36 = 0, l37 = 0, l38 = 0, l39 = 0, l40 = 0, l41 = 0, l42 = 0, l43 = 0, l44 = 0, l45 = 0, l46 = 0, l47 = 0, l48 = 0, l49 = 0, l50 = 0, l51 = 0, l52 = 0, l53 = 0, l54 = 0, l55 = 0, l56 = 0, l57 = 0, l58 = 0, l59 = 0, l60 = 0, l61 = 0, l62 = 0, l63 = 0, l64 = 0, l65 = 0, l66 = 0, l67 = 0, l68 = 0, l69 = 0, l70 = 0, l71 = 0, l72 = 0, l73 = 0, l74 = 0, l75 = 0, l76 = 0, l77 = 0, l78 = 0, l79 = 0, l80 = 0, l81 = 0, l82 = 0, l83 = 0, l84 = 0, l85 = 0, l86 = 0, l87 = 0, l88 = 0, l89 = 0, l90 = 0, l91 = 0, l92 = 0, l93 = 0, l94 = 0, l95 = 0, l96 = 0, l97 = 0, l98 = 0, l99 = 0, l100 = 0, l101 = 0, l102 = 0, l103 = 0, l104 = 0, l105 = 0, l106 = 0, l107 = 0, l108 = 0, l109 = 0, l110 = 0, l111 = 0, l112 = 0, l113 = 0, l114 = 0, l115 = 0, l116 = 0, l117 = 0, l118 = 0, l119 = 0, l120 = 0, l121 = 0, l122 = 0, l123 = 0, l124 = 0, l125 = 0, l126 = 0, l127 = 0, l128 = 0, l129 = 0, l130 = 0, l131 = 0, l132 = 0, l133 = 0, l134 = 0, l135 = 0, l136 = 0, l137 = 0, l138 = 0, l139 = 0, l140 = 0, l141 = 0, l142 = 0, l143 = 0, l144 = 0, l145 = 0, l146 = 0, l147 = 0, l148 = 0, l149 = 0, l150 = 0, l151 = 0, l152 = 0, l153 = 0, l154 = 0, l155 = 0, l156 = 0, l157 = 0, l158 = 0, l159 = 0, l160 = 0, l161 = 0, l162 = 0, l163 = 0, l164 = 0, l165 = 0, l166 = 0, l167 = 0, l168 = 0, l169 = 0, l170 = 0, l171 = 0, l172 = 0, l173 = 0, l174 = 0, l175 = 0, l176 = 0, l177 = 0, l178 = 0, l179 = 0, l180 = 0, l181 = 0, l182 = 0, l183 = 0, l184 = 0, l185 = 0, l186 = 0, l187 = 0, l188 = 0, l189 = 0, l190 = 0, l191 = 0, l192 = 0, l193 = 0, l194 = 0, l195 = 0, l196 = 0, l197 = 0, l198 = 0, l199 = 0, l200 = 0, l201 = 0, l202 = 0, l203 = 0, l204 = 0, l205 = 0, l206 = 0, l207 = 0, l208 = 0, l209 = 0, l210 = 0, l211 = 0, l212 = 0, l213 = 0, l214 = 0;
   u32 i0, i1, i2, i3, i4, i5;
@@ -52897,7 +52812,7 @@ static void code_f66(uint8_t *const m, const u32 last, u64 p0, u32 p1, u32 p2, u
   j2 = l7;
   j3 = l8;
   j4 = l10;
-  call(i0 = code_f113(m, last, j0, j1, j2, j3, j4));
+  call(i0 = code_f112(m, last, j0, j1, j2, j3, j4));
   i1 = 255u;
   i0 &= i1;
   if (i0) {goto B24;}
@@ -53061,7 +52976,7 @@ static void code_f66(uint8_t *const m, const u32 last, u64 p0, u32 p1, u32 p2, u
     j2 = l7;
     j3 = l8;
     j4 = l10;
-    call(i0 = code_f113(m, last, j0, j1, j2, j3, j4));
+    call(i0 = code_f112(m, last, j0, j1, j2, j3, j4));
     i1 = 255u;
     i0 &= i1;
     if (i0) {goto B21;}
@@ -53097,7 +53012,7 @@ static void code_f66(uint8_t *const m, const u32 last, u64 p0, u32 p1, u32 p2, u
     j0 = l6;
     j1 = 5000ull;
     j0 += j1;
-    call(i0 = code_f114(m, last, j0));
+    call(i0 = code_f113(m, last, j0));
     i0 = !(i0);
     if (i0) {goto B20;}
     j0 = l6;
@@ -53399,7 +53314,7 @@ static void code_f66(uint8_t *const m, const u32 last, u64 p0, u32 p1, u32 p2, u
   j2 = 9ull;
   j3 = l15;
   j4 = l11;
-  call(i0 = code_f14(m, last, j0, j1, j2, j3, j4));
+  call(i0 = code_f13(m, last, j0, j1, j2, j3, j4));
   i1 = 255u;
   i0 &= i1;
   if (i0) {goto B14;}
@@ -54398,7 +54313,7 @@ static void code_f66(uint8_t *const m, const u32 last, u64 p0, u32 p1, u32 p2, u
   j5 = l6;
   j6 = 5000ull;
   j5 += j6;
-  call(code_f62(m, last, j0, i1, i2, i3, j4, j5));
+  call(code_f61(m, last, j0, i1, i2, i3, j4, j5));
   i0 = p3;
   i0 = !(i0);
   if (i0) {goto B54;}
@@ -56313,7 +56228,7 @@ static void code_f66(uint8_t *const m, const u32 last, u64 p0, u32 p1, u32 p2, u
   j3 = 9ull;
   j4 = 1051193ull;
   j5 = 5ull;
-  call(code_f115(m, last, j0, j1, j2, j3, j4, j5));
+  call(code_f114(m, last, j0, j1, j2, j3, j4, j5));
   j0 = l6;
   i0 = (u32)(j0);
   i1 = 0u;
@@ -58225,7 +58140,7 @@ static void code_f66(uint8_t *const m, const u32 last, u64 p0, u32 p1, u32 p2, u
       j2 = l6;
       j3 = 3680ull;
       j2 += j3;
-      call(code_f116(m, last, j0, j1, j2));
+      call(code_f115(m, last, j0, j1, j2));
       j0 = l6;
       i0 = (u32)(j0);
       i32_load8_u_at(i0, frame, 272);
@@ -58264,7 +58179,7 @@ static void code_f66(uint8_t *const m, const u32 last, u64 p0, u32 p1, u32 p2, u
     j2 = l9;
     j1 += j2;
     j2 = l11;
-    call(i0 = code_f7(m, last, j0, j1, j2));
+    call(i0 = code_f6(m, last, j0, j1, j2));
     i1 = 255u;
     i0 &= i1;
     if (i0) {goto B118;}
@@ -58331,7 +58246,7 @@ static void code_f66(uint8_t *const m, const u32 last, u64 p0, u32 p1, u32 p2, u
     j2 = 1560ull;
     j1 += j2;
     i2 = l215;
-    call(code_f117(m, last, j0, j1, i2));
+    call(code_f116(m, last, j0, j1, i2));
     j0 = l6;
     i0 = (u32)(j0);
     j1 = l6;
@@ -58371,7 +58286,7 @@ static void code_f66(uint8_t *const m, const u32 last, u64 p0, u32 p1, u32 p2, u
     j2 += j3;
     i3 = l216;
     j4 = l16;
-    call(code_f36(m, last, j0, j1, j2, i3, j4));
+    call(code_f35(m, last, j0, j1, j2, i3, j4));
     j0 = l6;
     i0 = (u32)(j0);
     i64_load_at(j0, frame, 1960);
@@ -58589,7 +58504,7 @@ static void code_f66(uint8_t *const m, const u32 last, u64 p0, u32 p1, u32 p2, u
       i2 = 0u;
       j3 = l11;
       j4 = l9;
-      call(code_f118(m, last, j0, j1, i2, j3, j4));
+      call(code_f117(m, last, j0, j1, i2, j3, j4));
       j0 = l6;
       i0 = (u32)(j0);
       i32_load8_u_at(i0, frame, 256);
@@ -58628,7 +58543,7 @@ static void code_f66(uint8_t *const m, const u32 last, u64 p0, u32 p1, u32 p2, u
   j0 = l6;
   j1 = 2040ull;
   j0 += j1;
-  call(code_f119(m, last, j0));
+  call(code_f118(m, last, j0));
   goto trap;
   B118:;
   j0 = l6;
@@ -58645,7 +58560,7 @@ static void code_f66(uint8_t *const m, const u32 last, u64 p0, u32 p1, u32 p2, u
   j0 = l6;
   j1 = 2040ull;
   j0 += j1;
-  call(code_f119(m, last, j0));
+  call(code_f118(m, last, j0));
   goto trap;
   B117:;
   j0 = l6;
@@ -58662,7 +58577,7 @@ static void code_f66(uint8_t *const m, const u32 last, u64 p0, u32 p1, u32 p2, u
   j0 = l6;
   j1 = 2040ull;
   j0 += j1;
-  call(code_f119(m, last, j0));
+  call(code_f118(m, last, j0));
   goto trap;
   B116:;
   j0 = l6;
@@ -58679,7 +58594,7 @@ static void code_f66(uint8_t *const m, const u32 last, u64 p0, u32 p1, u32 p2, u
   j0 = l6;
   j1 = 2040ull;
   j0 += j1;
-  call(code_f119(m, last, j0));
+  call(code_f118(m, last, j0));
   goto trap;
   B115:;
   j0 = l6;
@@ -58696,11 +58611,11 @@ static void code_f66(uint8_t *const m, const u32 last, u64 p0, u32 p1, u32 p2, u
   j0 = l6;
   j1 = 2040ull;
   j0 += j1;
-  call(code_f119(m, last, j0));
+  call(code_f118(m, last, j0));
   j0 = l6;
   j1 = 4000ull;
   j0 += j1;
-  call(i0 = code_f57(m, last, j0));
+  call(i0 = code_f56(m, last, j0));
   i0 = !(i0);
   if (i0) {goto B131;}
   j0 = l6;
@@ -58735,7 +58650,7 @@ static void code_f66(uint8_t *const m, const u32 last, u64 p0, u32 p1, u32 p2, u
   j4 = l6;
   i4 = (u32)(j4);
   i64_load_at(j4, frame, 3784);
-  call(i0 = code_f14(m, last, j0, j1, j2, j3, j4));
+  call(i0 = code_f13(m, last, j0, j1, j2, j3, j4));
   i1 = 255u;
   i0 &= i1;
   i0 = !(i0);
@@ -58892,7 +58807,7 @@ static void code_f66(uint8_t *const m, const u32 last, u64 p0, u32 p1, u32 p2, u
   j0 = l6;
   j1 = 2040ull;
   j0 += j1;
-  call(code_f119(m, last, j0));
+  call(code_f118(m, last, j0));
   B80:;
   i0 = 1u;
   l215 = i0;
@@ -59752,7 +59667,7 @@ static void code_f66(uint8_t *const m, const u32 last, u64 p0, u32 p1, u32 p2, u
   j2 = l6;
   j3 = 2040ull;
   j2 += j3;
-  call(code_f64(m, last, j0, i1, j2));
+  call(code_f63(m, last, j0, i1, j2));
   j0 = l6;
   i0 = (u32)(j0);
   j1 = l6;
@@ -60158,7 +60073,7 @@ static void code_f66(uint8_t *const m, const u32 last, u64 p0, u32 p1, u32 p2, u
   j5 = 6ull;
   j6 = 1048609ull;
   j7 = 4ull;
-  call(code_f120(m, last, j0, j1, j2, j3, j4, j5, j6, j7));
+  call(code_f119(m, last, j0, j1, j2, j3, j4, j5, j6, j7));
   j0 = l6;
   i0 = (u32)(j0);
   i32_load8_u_at(i0, frame, 5000);
@@ -60562,7 +60477,7 @@ static void code_f66(uint8_t *const m, const u32 last, u64 p0, u32 p1, u32 p2, u
       j2 = l6;
       j3 = 4320ull;
       j2 += j3;
-      call(code_f116(m, last, j0, j1, j2));
+      call(code_f115(m, last, j0, j1, j2));
       i0 = 0u;
       l215 = i0;
       j0 = l6;
@@ -60682,7 +60597,7 @@ static void code_f66(uint8_t *const m, const u32 last, u64 p0, u32 p1, u32 p2, u
       j2 = l6;
       j3 = 4320ull;
       j2 += j3;
-      call(code_f116(m, last, j0, j1, j2));
+      call(code_f115(m, last, j0, j1, j2));
       j0 = l6;
       i0 = (u32)(j0);
       i32_load8_u_at(i0, frame, 208);
@@ -60750,7 +60665,7 @@ static void code_f66(uint8_t *const m, const u32 last, u64 p0, u32 p1, u32 p2, u
     j1 = l6;
     i1 = (u32)(j1);
     i32_load_at(i1, frame, 2208);
-    call(i0 = code_f121(m, last, j0, i1));
+    call(i0 = code_f120(m, last, j0, i1));
     l215 = i0;
     j0 = l6;
     i0 = (u32)(j0);
@@ -61046,7 +60961,7 @@ static void code_f66(uint8_t *const m, const u32 last, u64 p0, u32 p1, u32 p2, u
         j1 = 4416ull;
         j0 += j1;
         j1 = l10;
-        call(i0 = code_f122(m, last, j0, j1));
+        call(i0 = code_f121(m, last, j0, j1));
         i0 = !(i0);
         if (i0) {goto B196;}
         j0 = l6;
@@ -61445,7 +61360,7 @@ static void code_f66(uint8_t *const m, const u32 last, u64 p0, u32 p1, u32 p2, u
     j2 = l6;
     j3 = 4320ull;
     j2 += j3;
-    call(code_f116(m, last, j0, j1, j2));
+    call(code_f115(m, last, j0, j1, j2));
     j0 = l6;
     i0 = (u32)(j0);
     i32_load8_u_at(i0, frame, 192);
@@ -61473,7 +61388,7 @@ static void code_f66(uint8_t *const m, const u32 last, u64 p0, u32 p1, u32 p2, u
     i2 = 1u;
     j3 = l9;
     j4 = l11;
-    call(code_f118(m, last, j0, j1, i2, j3, j4));
+    call(code_f117(m, last, j0, j1, i2, j3, j4));
     j0 = l6;
     i0 = (u32)(j0);
     i32_load8_u_at(i0, frame, 176);
@@ -61496,7 +61411,7 @@ static void code_f66(uint8_t *const m, const u32 last, u64 p0, u32 p1, u32 p2, u
   j1 = 3680ull;
   j0 += j1;
   j1 = l166;
-  call(code_f123(m, last, j0, j1));
+  call(code_f122(m, last, j0, j1));
   j0 = l6;
   i0 = (u32)(j0);
   i64_load_at(j0, frame, 3808);
@@ -61517,7 +61432,7 @@ static void code_f66(uint8_t *const m, const u32 last, u64 p0, u32 p1, u32 p2, u
     i2 = 1u;
     j3 = l9;
     j4 = l11;
-    call(code_f118(m, last, j0, j1, i2, j3, j4));
+    call(code_f117(m, last, j0, j1, i2, j3, j4));
     j0 = l6;
     i0 = (u32)(j0);
     i32_load8_u_at(i0, frame, 160);
@@ -61628,7 +61543,7 @@ static void code_f66(uint8_t *const m, const u32 last, u64 p0, u32 p1, u32 p2, u
   j1 = 4640ull;
   j0 += j1;
   l11 = j0;
-  call(i0 = code_f57(m, last, j0));
+  call(i0 = code_f56(m, last, j0));
   i0 = !(i0);
   if (i0) {goto B229;}
   j0 = l6;
@@ -61661,7 +61576,7 @@ static void code_f66(uint8_t *const m, const u32 last, u64 p0, u32 p1, u32 p2, u
   j4 = l6;
   i4 = (u32)(j4);
   i64_load_at(j4, frame, 4424);
-  call(i0 = code_f14(m, last, j0, j1, j2, j3, j4));
+  call(i0 = code_f13(m, last, j0, j1, j2, j3, j4));
   i1 = 255u;
   i0 &= i1;
   i0 = !(i0);
@@ -61699,7 +61614,7 @@ static void code_f66(uint8_t *const m, const u32 last, u64 p0, u32 p1, u32 p2, u
   goto B8;
   B227:;
   j0 = l11;
-  call(i0 = code_f57(m, last, j0));
+  call(i0 = code_f56(m, last, j0));
   i0 = !(i0);
   if (i0) {goto B230;}
   j0 = l6;
@@ -61732,7 +61647,7 @@ static void code_f66(uint8_t *const m, const u32 last, u64 p0, u32 p1, u32 p2, u
   j4 = l6;
   i4 = (u32)(j4);
   i64_load_at(j4, frame, 4480);
-  call(i0 = code_f14(m, last, j0, j1, j2, j3, j4));
+  call(i0 = code_f13(m, last, j0, j1, j2, j3, j4));
   i1 = 255u;
   i0 &= i1;
   if (i0) {goto B231;}
@@ -62524,7 +62439,7 @@ static void code_f66(uint8_t *const m, const u32 last, u64 p0, u32 p1, u32 p2, u
   j0 += j1;
   i1 = p3;
   i2 = 100u;
-  call(code_f65(m, last, j0, i1, i2));
+  call(code_f64(m, last, j0, i1, i2));
   j0 = l6;
   i0 = (u32)(j0);
   j1 = 0ull;
@@ -63644,7 +63559,7 @@ static void code_f66(uint8_t *const m, const u32 last, u64 p0, u32 p1, u32 p2, u
   j5 = 8ull;
   j6 = 1051460ull;
   j7 = 6ull;
-  call(code_f120(m, last, j0, j1, j2, j3, j4, j5, j6, j7));
+  call(code_f119(m, last, j0, j1, j2, j3, j4, j5, j6, j7));
   j0 = l6;
   i0 = (u32)(j0);
   i1 = 0u;
@@ -65058,7 +64973,7 @@ static void code_f66(uint8_t *const m, const u32 last, u64 p0, u32 p1, u32 p2, u
     i2 = 1u;
     j3 = l9;
     j4 = l11;
-    call(code_f118(m, last, j0, j1, i2, j3, j4));
+    call(code_f117(m, last, j0, j1, i2, j3, j4));
     j0 = l6;
     i0 = (u32)(j0);
     i32_load8_u_at(i0, frame, 144);
@@ -65137,7 +65052,7 @@ static void code_f66(uint8_t *const m, const u32 last, u64 p0, u32 p1, u32 p2, u
       j2 = l6;
       j3 = 5440ull;
       j2 += j3;
-      call(code_f116(m, last, j0, j1, j2));
+      call(code_f115(m, last, j0, j1, j2));
       i0 = 0u;
       l215 = i0;
       j0 = l6;
@@ -65285,7 +65200,7 @@ static void code_f66(uint8_t *const m, const u32 last, u64 p0, u32 p1, u32 p2, u
       j2 = l6;
       j3 = 5440ull;
       j2 += j3;
-      call(code_f116(m, last, j0, j1, j2));
+      call(code_f115(m, last, j0, j1, j2));
       j0 = l6;
       i0 = (u32)(j0);
       i32_load8_u_at(i0, frame, 80);
@@ -65410,7 +65325,7 @@ static void code_f66(uint8_t *const m, const u32 last, u64 p0, u32 p1, u32 p2, u
     j4 = l15;
     j5 = 1ull;
     j4 += j5;
-    call(code_f16(m, last, j0, j1, j2, j3, j4));
+    call(code_f15(m, last, j0, j1, j2, j3, j4));
     j0 = l6;
     i0 = (u32)(j0);
     i32_load8_u_at(i0, frame, 5904);
@@ -65659,7 +65574,7 @@ static void code_f66(uint8_t *const m, const u32 last, u64 p0, u32 p1, u32 p2, u
     j1 = l6;
     j2 = 6336ull;
     j1 += j2;
-    call(code_f124(m, last, j0, j1));
+    call(code_f123(m, last, j0, j1));
     j0 = l6;
     j1 = 6384ull;
     j0 += j1;
@@ -65691,7 +65606,7 @@ static void code_f66(uint8_t *const m, const u32 last, u64 p0, u32 p1, u32 p2, u
       i2 = 1u;
       j3 = l9;
       j4 = l11;
-      call(code_f118(m, last, j0, j1, i2, j3, j4));
+      call(code_f117(m, last, j0, j1, i2, j3, j4));
       j0 = l6;
       i0 = (u32)(j0);
       i32_load8_u_at(i0, frame, 112);
@@ -65955,7 +65870,7 @@ static void code_f66(uint8_t *const m, const u32 last, u64 p0, u32 p1, u32 p2, u
       i2 = 0u;
       j3 = l12;
       j4 = l7;
-      call(code_f118(m, last, j0, j1, i2, j3, j4));
+      call(code_f117(m, last, j0, j1, i2, j3, j4));
       j0 = l6;
       i0 = (u32)(j0);
       i32_load8_u_at(i0, frame, 96);
@@ -66272,7 +66187,7 @@ static void code_f66(uint8_t *const m, const u32 last, u64 p0, u32 p1, u32 p2, u
     j2 = l6;
     j3 = 5440ull;
     j2 += j3;
-    call(code_f116(m, last, j0, j1, j2));
+    call(code_f115(m, last, j0, j1, j2));
     j0 = l6;
     i0 = (u32)(j0);
     i32_load8_u_at(i0, frame, 64);
@@ -66307,7 +66222,7 @@ static void code_f66(uint8_t *const m, const u32 last, u64 p0, u32 p1, u32 p2, u
   i1 = (u32)(j1);
   i64_load_at(j1, frame, 2648);
   l12 = j1;
-  call(code_f67(m, last, j0, j1));
+  call(code_f66(m, last, j0, j1));
   j0 = l6;
   j1 = 5904ull;
   j0 += j1;
@@ -66332,7 +66247,7 @@ static void code_f66(uint8_t *const m, const u32 last, u64 p0, u32 p1, u32 p2, u
   i1 = (u32)(j1);
   i64_load_at(j1, frame, 2656);
   l11 = j1;
-  call(code_f67(m, last, j0, j1));
+  call(code_f66(m, last, j0, j1));
   j0 = l6;
   j1 = 5904ull;
   j0 += j1;
@@ -66356,7 +66271,7 @@ static void code_f66(uint8_t *const m, const u32 last, u64 p0, u32 p1, u32 p2, u
   j1 = l6;
   i1 = (u32)(j1);
   i64_load_at(j1, frame, 2664);
-  call(code_f67(m, last, j0, j1));
+  call(code_f66(m, last, j0, j1));
   j0 = l6;
   j1 = 5904ull;
   j0 += j1;
@@ -66407,7 +66322,7 @@ static void code_f66(uint8_t *const m, const u32 last, u64 p0, u32 p1, u32 p2, u
     i2 = 1u;
     j3 = l11;
     j4 = l9;
-    call(code_f118(m, last, j0, j1, i2, j3, j4));
+    call(code_f117(m, last, j0, j1, i2, j3, j4));
     j0 = l6;
     i0 = (u32)(j0);
     i32_load8_u_at(i0, frame, 48);
@@ -66658,7 +66573,7 @@ static void code_f66(uint8_t *const m, const u32 last, u64 p0, u32 p1, u32 p2, u
   j1 = 5760ull;
   j0 += j1;
   l9 = j0;
-  call(i0 = code_f57(m, last, j0));
+  call(i0 = code_f56(m, last, j0));
   i0 = !(i0);
   if (i0) {goto B334;}
   j0 = l6;
@@ -66691,7 +66606,7 @@ static void code_f66(uint8_t *const m, const u32 last, u64 p0, u32 p1, u32 p2, u
   j4 = l6;
   i4 = (u32)(j4);
   i64_load_at(j4, frame, 5544);
-  call(i0 = code_f14(m, last, j0, j1, j2, j3, j4));
+  call(i0 = code_f13(m, last, j0, j1, j2, j3, j4));
   i1 = 255u;
   i0 &= i1;
   i0 = !(i0);
@@ -66730,7 +66645,7 @@ static void code_f66(uint8_t *const m, const u32 last, u64 p0, u32 p1, u32 p2, u
   goto trap;
   B7:;
   j0 = l9;
-  call(i0 = code_f57(m, last, j0));
+  call(i0 = code_f56(m, last, j0));
   i0 = !(i0);
   if (i0) {goto B335;}
   j0 = l6;
@@ -66763,7 +66678,7 @@ static void code_f66(uint8_t *const m, const u32 last, u64 p0, u32 p1, u32 p2, u
   j4 = l6;
   i4 = (u32)(j4);
   i64_load_at(j4, frame, 5600);
-  call(i0 = code_f14(m, last, j0, j1, j2, j3, j4));
+  call(i0 = code_f13(m, last, j0, j1, j2, j3, j4));
   i1 = 255u;
   i0 &= i1;
   if (i0) {goto B336;}
@@ -67564,7 +67479,7 @@ static void code_f66(uint8_t *const m, const u32 last, u64 p0, u32 p1, u32 p2, u
   j1 = l6;
   j2 = 352ull;
   j1 += j2;
-  call(code_f125(m, last, j0, j1));
+  call(code_f124(m, last, j0, j1));
   j0 = l6;
   j1 = 32ull;
   j0 += j1;
@@ -67581,7 +67496,7 @@ static void code_f66(uint8_t *const m, const u32 last, u64 p0, u32 p1, u32 p2, u
   l15 = j2;
   j3 = 1051184ull;
   j4 = 9ull;
-  call(code_f35(m, last, j0, j1, j2, j3, j4));
+  call(code_f34(m, last, j0, j1, j2, j3, j4));
   j0 = 0ull;
   l7 = j0;
   j0 = 0ull;
@@ -67612,7 +67527,7 @@ static void code_f66(uint8_t *const m, const u32 last, u64 p0, u32 p1, u32 p2, u
   j2 = l15;
   j3 = 1051193ull;
   j4 = 5ull;
-  call(code_f35(m, last, j0, j1, j2, j3, j4));
+  call(code_f34(m, last, j0, j1, j2, j3, j4));
   j0 = l6;
   i0 = (u32)(j0);
   i32_load8_u_at(i0, frame, 16);
@@ -67637,7 +67552,7 @@ static void code_f66(uint8_t *const m, const u32 last, u64 p0, u32 p1, u32 p2, u
   j2 = l15;
   j3 = 1051198ull;
   j4 = 6ull;
-  call(code_f35(m, last, j0, j1, j2, j3, j4));
+  call(code_f34(m, last, j0, j1, j2, j3, j4));
   j0 = 0ull;
   l15 = j0;
   j0 = l6;
@@ -67833,7 +67748,7 @@ static void code_f66(uint8_t *const m, const u32 last, u64 p0, u32 p1, u32 p2, u
   return;
 }
 
-static void code_f67(uint8_t *const m, const u32 last, u64 p0, u64 p1) {
+static void code_f66(uint8_t *const m, const u32 last, u64 p0, u64 p1) {
   u32 l6 = 0, l7 = 0;
   u64 l2 = 0, l3 = 0, l4 = 0, l5 = 0;
   u32 i0, i1, i2, i3;
@@ -68073,7 +67988,7 @@ static void code_f67(uint8_t *const m, const u32 last, u64 p0, u64 p1) {
   return;
 }
 
-static void code_f68(uint8_t *const m, const u32 last, u64 p0, u64 p1, u64 p2, u64 p3) {
+static void code_f67(uint8_t *const m, const u32 last, u64 p0, u64 p1, u64 p2, u64 p3) {
   u32 l7 = 0, l8 = 0, l9 = 0, l10 = 0, l11 = 0, l12 = 0, l13 = 0, l14 = 0, l15 = 0, l16 = 0, l17 = 0, l18 = 0, l19 = 0, l20 = 0, l21 = 0, l22 = 0, l23 = 0;
   u64 l4 = 0, l5 = 0, l6 = 0;
   u32 i0, i1, i2, i3, i4;
@@ -68861,7 +68776,7 @@ static void code_f68(uint8_t *const m, const u32 last, u64 p0, u64 p1, u64 p2, u
   return;
 }
 
-static void code_f69(uint8_t *const m, const u32 last, u64 p0, u64 p1) {
+static void code_f68(uint8_t *const m, const u32 last, u64 p0, u64 p1) {
   u32 l8 = 0, l9 = 0, l10 = 0;
   u64 l2 = 0, l3 = 0, l4 = 0, l5 = 0, l6 = 0, l7 = 0;
   u32 i0, i1, i2;
@@ -69190,7 +69105,7 @@ static void code_f69(uint8_t *const m, const u32 last, u64 p0, u64 p1) {
   j0 += j1;
   j1 = p1;
   j2 = l3;
-  call(code_f85(m, last, j0, j1, j2));
+  call(code_f84(m, last, j0, j1, j2));
   j0 = l2;
   i0 = (u32)(j0);
   i32_load8_u_at(i0, frame, 768);
@@ -69216,7 +69131,7 @@ static void code_f69(uint8_t *const m, const u32 last, u64 p0, u64 p1) {
   j0 += j1;
   i1 = l8;
   j2 = l3;
-  call(code_f86(m, last, j0, i1, j2));
+  call(code_f85(m, last, j0, i1, j2));
   j0 = l2;
   i0 = (u32)(j0);
   i32_load8_u_at(i0, frame, 664);
@@ -69261,7 +69176,7 @@ static void code_f69(uint8_t *const m, const u32 last, u64 p0, u64 p1) {
   j2 = p1;
   j3 = 16656ull;
   j2 += j3;
-  call(code_f87(m, last, j0, j1, j2));
+  call(code_f86(m, last, j0, j1, j2));
   j0 = l2;
   i0 = (u32)(j0);
   i32_load8_u_at(i0, frame, 880);
@@ -69305,7 +69220,7 @@ static void code_f69(uint8_t *const m, const u32 last, u64 p0, u64 p1) {
   j1 = 136ull;
   j0 += j1;
   j1 = l3;
-  call(code_f88(m, last, j0, j1));
+  call(code_f87(m, last, j0, j1));
   j0 = 0ull;
   l3 = j0;
   j0 = l2;
@@ -69564,7 +69479,7 @@ static void code_f69(uint8_t *const m, const u32 last, u64 p0, u64 p1) {
   j2 = l2;
   j3 = 384ull;
   j2 += j3;
-  call(code_f89(m, last, j0, j1, j2));
+  call(code_f88(m, last, j0, j1, j2));
   j0 = l2;
   i0 = (u32)(j0);
   j1 = l2;
@@ -69812,7 +69727,7 @@ static void code_f69(uint8_t *const m, const u32 last, u64 p0, u64 p1) {
   return;
 }
 
-static u32 code_f70(uint8_t *const m, const u32 last, u64 p0) {
+static u32 code_f69(uint8_t *const m, const u32 last, u64 p0) {
   u32 l6 = 0;
   u64 l1 = 0, l2 = 0, l3 = 0, l4 = 0, l5 = 0;
   u32 i0, i1, i2;
@@ -69939,7 +69854,7 @@ static u32 code_f70(uint8_t *const m, const u32 last, u64 p0) {
   return 0;
 }
 
-static void code_f71(uint8_t *const m, const u32 last, u64 p0) {
+static void code_f70(uint8_t *const m, const u32 last, u64 p0) {
   u64 l1 = 0, l2 = 0, l3 = 0, l4 = 0, l5 = 0, l6 = 0, l7 = 0, l8 = 0, l9 = 0, l10 = 0, l11 = 0, l12 = 0, l13 = 0, l14 = 0, l15 = 0, l16 = 0, l17 = 0, l18 = 0, l19 = 0, l20 = 0, l21 = 0, l22 = 0, l23 = 0, l24 = 0, l25 = 0;
   u32 i0;
   u64 j0, j1;
@@ -70200,7 +70115,7 @@ static void code_f71(uint8_t *const m, const u32 last, u64 p0) {
   return;
 }
 
-static void code_f72(uint8_t *const m, const u32 last, u64 p0) {
+static void code_f71(uint8_t *const m, const u32 last, u64 p0) {
   u64 l1 = 0, l2 = 0, l3 = 0, l4 = 0, l5 = 0;
   u32 i0, i3;
   u64 j0, j1, j2, j3;
@@ -70313,7 +70228,7 @@ static void code_f72(uint8_t *const m, const u32 last, u64 p0) {
   return;
 }
 
-static u32 code_f73(uint8_t *const m, const u32 last, u64 p0, u64 p1) {
+static u32 code_f72(uint8_t *const m, const u32 last, u64 p0, u64 p1) {
   u32 l2 = 0;
   u64 l3 = 0, l4 = 0;
   u32 i0, i1, i2, i3;
@@ -70396,7 +70311,7 @@ static u32 code_f73(uint8_t *const m, const u32 last, u64 p0, u64 p1) {
   j0 = p0;
   j1 = l3;
   j2 = p1;
-  call(i0 = code_f6(m, last, j0, j1, j2));
+  call(i0 = code_f5(m, last, j0, j1, j2));
   goto Bfunc;
   B1:;
   j0 = l3;
@@ -70471,7 +70386,7 @@ static u32 code_f73(uint8_t *const m, const u32 last, u64 p0, u64 p1) {
   return 0;
 }
 
-static u32 code_f74(uint8_t *const m, const u32 last, u64 p0) {
+static u32 code_f73(uint8_t *const m, const u32 last, u64 p0) {
   u32 l6 = 0;
   u64 l1 = 0, l2 = 0, l3 = 0, l4 = 0, l5 = 0;
   u32 i0, i1, i2;
@@ -70598,7 +70513,7 @@ static u32 code_f74(uint8_t *const m, const u32 last, u64 p0) {
   return 0;
 }
 
-static u32 code_f75(uint8_t *const m, const u32 last, u64 p0) {
+static u32 code_f74(uint8_t *const m, const u32 last, u64 p0) {
   u32 l6 = 0;
   u64 l1 = 0, l2 = 0, l3 = 0, l4 = 0, l5 = 0;
   u32 i0, i1, i2;
@@ -70725,7 +70640,7 @@ static u32 code_f75(uint8_t *const m, const u32 last, u64 p0) {
   return 0;
 }
 
-static u32 code_f76(uint8_t *const m, const u32 last, u64 p0) {
+static u32 code_f75(uint8_t *const m, const u32 last, u64 p0) {
   u32 l6 = 0;
   u64 l1 = 0, l2 = 0, l3 = 0, l4 = 0, l5 = 0;
   u32 i0, i1, i2;
@@ -70852,7 +70767,7 @@ static u32 code_f76(uint8_t *const m, const u32 last, u64 p0) {
   return 0;
 }
 
-static u32 code_f77(uint8_t *const m, const u32 last, u64 p0) {
+static u32 code_f76(uint8_t *const m, const u32 last, u64 p0) {
   u32 l6 = 0;
   u64 l1 = 0, l2 = 0, l3 = 0, l4 = 0, l5 = 0;
   u32 i0, i1, i2;
@@ -70979,7 +70894,7 @@ static u32 code_f77(uint8_t *const m, const u32 last, u64 p0) {
   return 0;
 }
 
-static void code_f78(uint8_t *const m, const u32 last, u64 p0, u64 p1) {
+static void code_f77(uint8_t *const m, const u32 last, u64 p0, u64 p1) {
   u32 l35 = 0, l36 = 0, l37 = 0;
   u64 l2 = 0, l3 = 0, l4 = 0, l5 = 0, l6 = 0, l7 = 0, l8 = 0, l9 = 0, l10 = 0, l11 = 0, l12 = 0, l13 = 0, l14 = 0, l15 = 0, l16 = 0, l17 = 0, l18 = 0, l19 = 0, l20 = 0, l21 = 0, l22 = 0, l23 = 0, l24 = 0, l25 = 0, l26 = 0, l27 = 0, l28 = 0, l29 = 0, l30 = 0, l31 = 0, l32 = 0, l33 = 0, l34 = 0;
   u32 i0, i1, i2, i3, i6;
@@ -71210,7 +71125,7 @@ static void code_f78(uint8_t *const m, const u32 last, u64 p0, u64 p1) {
   i6 = j6 < j7;
   j4 = i6 ? j4 : j5;
   l31 = j4;
-  call(code_f102(m, last, j0, j1, j2, i3, j4));
+  call(code_f101(m, last, j0, j1, j2, i3, j4));
   j0 = l2;
   i0 = (u32)(j0);
   i32_load8_u_at(i0, frame, 312);
@@ -71250,7 +71165,7 @@ static void code_f78(uint8_t *const m, const u32 last, u64 p0, u64 p1) {
   j2 = p1;
   i3 = 1u;
   j4 = l31;
-  call(code_f102(m, last, j0, j1, j2, i3, j4));
+  call(code_f101(m, last, j0, j1, j2, i3, j4));
   j0 = l2;
   i0 = (u32)(j0);
   i32_load8_u_at(i0, frame, 248);
@@ -71290,7 +71205,7 @@ static void code_f78(uint8_t *const m, const u32 last, u64 p0, u64 p1) {
   j2 = p1;
   i3 = 2u;
   j4 = l31;
-  call(code_f102(m, last, j0, j1, j2, i3, j4));
+  call(code_f101(m, last, j0, j1, j2, i3, j4));
   j0 = l2;
   i0 = (u32)(j0);
   i32_load8_u_at(i0, frame, 184);
@@ -71409,7 +71324,7 @@ static void code_f78(uint8_t *const m, const u32 last, u64 p0, u64 p1) {
     j0 = l2;
     j1 = 496ull;
     j0 += j1;
-    call(i0 = code_f103(m, last, j0));
+    call(i0 = code_f102(m, last, j0));
     i0 = !(i0);
     if (i0) {goto B7;}
     j0 = l2;
@@ -71506,7 +71421,7 @@ static void code_f78(uint8_t *const m, const u32 last, u64 p0, u64 p1) {
   j2 = 376ull;
   j1 += j2;
   j2 = l31;
-  call(code_f104(m, last, j0, j1, j2));
+  call(code_f103(m, last, j0, j1, j2));
   j0 = l2;
   i0 = (u32)(j0);
   j1 = l2;
@@ -71996,7 +71911,7 @@ static void code_f78(uint8_t *const m, const u32 last, u64 p0, u64 p1) {
   return;
 }
 
-static void code_f79(uint8_t *const m, const u32 last, u64 p0, u64 p1) {
+static void code_f78(uint8_t *const m, const u32 last, u64 p0, u64 p1) {
   u32 l11 = 0, l12 = 0, l13 = 0;
   u64 l2 = 0, l3 = 0, l4 = 0, l5 = 0, l6 = 0, l7 = 0, l8 = 0, l9 = 0, l10 = 0;
   u32 i0, i1, i2;
@@ -72181,7 +72096,7 @@ static void code_f79(uint8_t *const m, const u32 last, u64 p0, u64 p1) {
     j0 = l2;
     j1 = 240ull;
     j0 += j1;
-    call(i0 = code_f103(m, last, j0));
+    call(i0 = code_f102(m, last, j0));
     i0 = !(i0);
     if (i0) {goto B2;}
     j0 = l2;
@@ -72277,7 +72192,7 @@ static void code_f79(uint8_t *const m, const u32 last, u64 p0, u64 p1) {
   j2 = 120ull;
   j1 += j2;
   j2 = l8;
-  call(code_f104(m, last, j0, j1, j2));
+  call(code_f103(m, last, j0, j1, j2));
   j0 = l2;
   i0 = (u32)(j0);
   j1 = l2;
@@ -72499,7 +72414,7 @@ static void code_f79(uint8_t *const m, const u32 last, u64 p0, u64 p1) {
   return;
 }
 
-static void code_f80(uint8_t *const m, const u32 last, u64 p0, u64 p1) {
+static void code_f79(uint8_t *const m, const u32 last, u64 p0, u64 p1) {
   u32 l5 = 0;
   u64 l2 = 0, l3 = 0, l4 = 0;
   u32 i0, i1, i2;
@@ -72541,7 +72456,7 @@ static void code_f80(uint8_t *const m, const u32 last, u64 p0, u64 p1) {
   j0 += j1;
   j1 = p1;
   j2 = 1ull;
-  call(code_f81(m, last, j0, j1, j2));
+  call(code_f80(m, last, j0, j1, j2));
   j0 = l2;
   i0 = (u32)(j0);
   i32_load8_u_at(i0, frame, 24);
@@ -72591,7 +72506,7 @@ static void code_f80(uint8_t *const m, const u32 last, u64 p0, u64 p1) {
   j2 -= j3;
   j3 = 0ull;
   j4 = 7ull;
-  call(code_f52(m, last, j0, j1, j2, j3, j4));
+  call(code_f51(m, last, j0, j1, j2, j3, j4));
   j0 = l2;
   i0 = (u32)(j0);
   i32_load8_u_at(i0, frame, 8);
@@ -72680,7 +72595,7 @@ static void code_f80(uint8_t *const m, const u32 last, u64 p0, u64 p1) {
   return;
 }
 
-static void code_f81(uint8_t *const m, const u32 last, u64 p0, u64 p1, u64 p2) {
+static void code_f80(uint8_t *const m, const u32 last, u64 p0, u64 p1, u64 p2) {
   u64 l3 = 0, l4 = 0, l5 = 0;
   u32 i0, i1, i2, i3;
   u64 j0, j1, j2, j3, j4;
@@ -72739,7 +72654,7 @@ static void code_f81(uint8_t *const m, const u32 last, u64 p0, u64 p1, u64 p2) {
   j2 -= j3;
   j3 = 0ull;
   j4 = 4294967295ull;
-  call(code_f52(m, last, j0, j1, j2, j3, j4));
+  call(code_f51(m, last, j0, j1, j2, j3, j4));
   j0 = l3;
   i0 = (u32)(j0);
   i32_load8_u_at(i0, frame, 32);
@@ -72792,7 +72707,7 @@ static void code_f81(uint8_t *const m, const u32 last, u64 p0, u64 p1, u64 p2) {
   j4 = 4294967295ull;
   j3 &= j4;
   j4 = 4294967295ull;
-  call(code_f52(m, last, j0, j1, j2, j3, j4));
+  call(code_f51(m, last, j0, j1, j2, j3, j4));
   j0 = l3;
   i0 = (u32)(j0);
   i32_load8_u_at(i0, frame, 16);
@@ -72842,7 +72757,7 @@ static void code_f81(uint8_t *const m, const u32 last, u64 p0, u64 p1, u64 p2) {
   j2 -= j3;
   j3 = 1ull;
   j4 = 4294967295ull;
-  call(code_f52(m, last, j0, j1, j2, j3, j4));
+  call(code_f51(m, last, j0, j1, j2, j3, j4));
   j0 = l3;
   i0 = (u32)(j0);
   i32_load8_u_at(i0, frame, 0);
@@ -72951,7 +72866,7 @@ static void code_f81(uint8_t *const m, const u32 last, u64 p0, u64 p1, u64 p2) {
   return;
 }
 
-static u32 code_f82(uint8_t *const m, const u32 last, u64 p0) {
+static u32 code_f81(uint8_t *const m, const u32 last, u64 p0) {
   u32 l6 = 0;
   u64 l1 = 0, l2 = 0, l3 = 0, l4 = 0, l5 = 0;
   u32 i0, i1, i2;
@@ -73068,6 +72983,136 @@ static u32 code_f82(uint8_t *const m, const u32 last, u64 p0) {
   l6 = i0;
   B0:;
   j0 = l1;
+  j1 = 32ull;
+  j0 += j1;
+  set_stack(j0);
+  i0 = l6;
+  return i0;
+  trap:
+  set_broken(m);
+  return 0;
+}
+
+static u32 code_f82(uint8_t *const m, const u32 last, u64 p0, u64 p1) {
+  u32 l6 = 0;
+  u64 l2 = 0, l3 = 0, l4 = 0, l5 = 0;
+  u32 i0, i1, i2;
+  u64 j0, j1, j2, j3, j4;
+  uint8_t *a0, *frame;
+  enter(l2, 32);
+  frame = place(l2);
+  j0 = l2;
+  i0 = 0u;
+  l6 = i0;
+  j0 = p1;
+  j1 = p0;
+  j2 = 8ull;
+  j1 += j2;
+  i1 = (u32)(j1);
+  i64_load(j1, i1, 0);
+  l3 = j1;
+  j2 = 18446744073709551615ull;
+  j1 ^= j2;
+  i0 = j0 > j1;
+  if (i0) {goto B0;}
+  j0 = l3;
+  j1 = p1;
+  j0 += j1;
+  p1 = j0;
+  j1 = 4ull;
+  j2 = p1;
+  j3 = 4ull;
+  i2 = j2 > j3;
+  j0 = i2 ? j0 : j1;
+  p1 = j0;
+  j1 = p0;
+  j2 = 16ull;
+  j1 += j2;
+  i1 = (u32)(j1);
+  reach(a0, i1, 0, 0);
+  i64_load_at(j1, a0, 0);
+  l4 = j1;
+  j2 = 1ull;
+  j1 <<= (j2 & 63);
+  l5 = j1;
+  j2 = p1;
+  j3 = l5;
+  i2 = j2 > j3;
+  j0 = i2 ? j0 : j1;
+  l5 = j0;
+  j1 = p1;
+  j2 = l4;
+  j3 = 4611686018427387904ull;
+  i2 = j2 < j3;
+  j0 = i2 ? j0 : j1;
+  p1 = j0;
+  j1 = 576460752303423487ull;
+  i0 = j0 > j1;
+  if (i0) {goto B0;}
+  j0 = l4;
+  i0 = !(j0);
+  if (i0) {goto B2;}
+  j0 = l2;
+  j1 = 16ull;
+  j0 += j1;
+  j1 = p0;
+  i1 = (u32)(j1);
+  i64_load(j1, i1, 0);
+  j2 = l3;
+  j3 = 4ull;
+  j2 <<= (j3 & 63);
+  j3 = p1;
+  j4 = 4ull;
+  j3 <<= (j4 & 63);
+  j4 = 4ull;
+  call(heap_realloc(m, last, j0, j1, j2, j3, j4));
+  j0 = l2;
+  i0 = (u32)(j0);
+  i64_load_at(j0, frame, 16);
+  i0 = (u32)(j0);
+  i1 = 1u;
+  i0 &= i1;
+  i0 = !(i0);
+  if (i0) {goto B0;}
+  j0 = l2;
+  i0 = (u32)(j0);
+  i64_load_at(j0, frame, 24);
+  l3 = j0;
+  goto B1;
+  B2:;
+  j0 = l2;
+  j1 = l5;
+  j2 = 4ull;
+  j1 <<= (j2 & 63);
+  j2 = 4ull;
+  call(heap_alloc(m, last, j0, j1, j2));
+  j0 = l2;
+  i0 = (u32)(j0);
+  i64_load_at(j0, frame, 0);
+  i0 = (u32)(j0);
+  i1 = 1u;
+  i0 &= i1;
+  i0 = !(i0);
+  if (i0) {goto B0;}
+  j0 = l2;
+  i0 = (u32)(j0);
+  i64_load_at(j0, frame, 8);
+  l3 = j0;
+  B1:;
+  j0 = p0;
+  j1 = 16ull;
+  j0 += j1;
+  i0 = (u32)(j0);
+  j1 = p1;
+  i64_store_at(j1, a0, 0);
+  j0 = p0;
+  i0 = (u32)(j0);
+  j1 = l3;
+  i64_store(j1, i0, 0);
+  i0 = 1u;
+  l6 = i0;
+  B0:;
+  j0 = l2;
   j1 = 32ull;
   j0 += j1;
   set_stack(j0);
@@ -73208,137 +73253,7 @@ static u32 code_f83(uint8_t *const m, const u32 last, u64 p0, u64 p1) {
   return 0;
 }
 
-static u32 code_f84(uint8_t *const m, const u32 last, u64 p0, u64 p1) {
-  u32 l6 = 0;
-  u64 l2 = 0, l3 = 0, l4 = 0, l5 = 0;
-  u32 i0, i1, i2;
-  u64 j0, j1, j2, j3, j4;
-  uint8_t *a0, *frame;
-  enter(l2, 32);
-  frame = place(l2);
-  j0 = l2;
-  i0 = 0u;
-  l6 = i0;
-  j0 = p1;
-  j1 = p0;
-  j2 = 8ull;
-  j1 += j2;
-  i1 = (u32)(j1);
-  i64_load(j1, i1, 0);
-  l3 = j1;
-  j2 = 18446744073709551615ull;
-  j1 ^= j2;
-  i0 = j0 > j1;
-  if (i0) {goto B0;}
-  j0 = l3;
-  j1 = p1;
-  j0 += j1;
-  p1 = j0;
-  j1 = 4ull;
-  j2 = p1;
-  j3 = 4ull;
-  i2 = j2 > j3;
-  j0 = i2 ? j0 : j1;
-  p1 = j0;
-  j1 = p0;
-  j2 = 16ull;
-  j1 += j2;
-  i1 = (u32)(j1);
-  reach(a0, i1, 0, 0);
-  i64_load_at(j1, a0, 0);
-  l4 = j1;
-  j2 = 1ull;
-  j1 <<= (j2 & 63);
-  l5 = j1;
-  j2 = p1;
-  j3 = l5;
-  i2 = j2 > j3;
-  j0 = i2 ? j0 : j1;
-  l5 = j0;
-  j1 = p1;
-  j2 = l4;
-  j3 = 4611686018427387904ull;
-  i2 = j2 < j3;
-  j0 = i2 ? j0 : j1;
-  p1 = j0;
-  j1 = 576460752303423487ull;
-  i0 = j0 > j1;
-  if (i0) {goto B0;}
-  j0 = l4;
-  i0 = !(j0);
-  if (i0) {goto B2;}
-  j0 = l2;
-  j1 = 16ull;
-  j0 += j1;
-  j1 = p0;
-  i1 = (u32)(j1);
-  i64_load(j1, i1, 0);
-  j2 = l3;
-  j3 = 4ull;
-  j2 <<= (j3 & 63);
-  j3 = p1;
-  j4 = 4ull;
-  j3 <<= (j4 & 63);
-  j4 = 4ull;
-  call(heap_realloc(m, last, j0, j1, j2, j3, j4));
-  j0 = l2;
-  i0 = (u32)(j0);
-  i64_load_at(j0, frame, 16);
-  i0 = (u32)(j0);
-  i1 = 1u;
-  i0 &= i1;
-  i0 = !(i0);
-  if (i0) {goto B0;}
-  j0 = l2;
-  i0 = (u32)(j0);
-  i64_load_at(j0, frame, 24);
-  l3 = j0;
-  goto B1;
-  B2:;
-  j0 = l2;
-  j1 = l5;
-  j2 = 4ull;
-  j1 <<= (j2 & 63);
-  j2 = 4ull;
-  call(heap_alloc(m, last, j0, j1, j2));
-  j0 = l2;
-  i0 = (u32)(j0);
-  i64_load_at(j0, frame, 0);
-  i0 = (u32)(j0);
-  i1 = 1u;
-  i0 &= i1;
-  i0 = !(i0);
-  if (i0) {goto B0;}
-  j0 = l2;
-  i0 = (u32)(j0);
-  i64_load_at(j0, frame, 8);
-  l3 = j0;
-  B1:;
-  j0 = p0;
-  j1 = 16ull;
-  j0 += j1;
-  i0 = (u32)(j0);
-  j1 = p1;
-  i64_store_at(j1, a0, 0);
-  j0 = p0;
-  i0 = (u32)(j0);
-  j1 = l3;
-  i64_store(j1, i0, 0);
-  i0 = 1u;
-  l6 = i0;
-  B0:;
-  j0 = l2;
-  j1 = 32ull;
-  j0 += j1;
-  set_stack(j0);
-  i0 = l6;
-  return i0;
-  trap:
-  set_broken(m);
-  return 0;
-}
-
-static void code_f85(uint8_t *const m, const u32 last, u64 p0, u64 p1, u64 p2) {
+static void code_f84(uint8_t *const m, const u32 last, u64 p0, u64 p1, u64 p2) {
   u32 l31 = 0, l32 = 0, l33 = 0, l34 = 0;
   u64 l3 = 0, l4 = 0, l5 = 0, l6 = 0, l7 = 0, l8 = 0, l9 = 0, l10 = 0, l11 = 0, l12 = 0, l13 = 0, l14 = 0, l15 = 0, l16 = 0, l17 = 0, l18 = 0, l19 = 0, l20 = 0, l21 = 0, l22 = 0, l23 = 0, l24 = 0, l25 = 0, l26 = 0, l27 = 0, l28 = 0, l29 = 0, l30 = 0;
   u32 i0, i1, i2, i3;
@@ -73547,7 +73462,7 @@ static void code_f85(uint8_t *const m, const u32 last, u64 p0, u64 p1, u64 p2) {
   j1 = 368ull;
   j0 += j1;
   j1 = p1;
-  call(code_f90(m, last, j0, j1));
+  call(code_f89(m, last, j0, j1));
   j0 = l3;
   i0 = (u32)(j0);
   i32_load8_u_at(i0, frame, 368);
@@ -73612,7 +73527,7 @@ static void code_f85(uint8_t *const m, const u32 last, u64 p0, u64 p1, u64 p2) {
     j1 = 176ull;
     j0 += j1;
     j1 = p1;
-    call(code_f91(m, last, j0, j1));
+    call(code_f90(m, last, j0, j1));
     j0 = l3;
     i0 = (u32)(j0);
     i64_load_at(j0, frame, 184);
@@ -73667,7 +73582,7 @@ static void code_f85(uint8_t *const m, const u32 last, u64 p0, u64 p1, u64 p2) {
     j1 = 24ull;
     j0 += j1;
     j1 = 1ull;
-    call(i0 = code_f92(m, last, j0, j1));
+    call(i0 = code_f91(m, last, j0, j1));
     i0 = !(i0);
     if (i0) {goto B7;}
     j0 = l5;
@@ -73717,7 +73632,7 @@ static void code_f85(uint8_t *const m, const u32 last, u64 p0, u64 p1, u64 p2) {
     if (i0) {goto B17;}
     j0 = p2;
     j1 = 1ull;
-    call(i0 = code_f93(m, last, j0, j1));
+    call(i0 = code_f92(m, last, j0, j1));
     i0 = !(i0);
     if (i0) {goto B7;}
     B17:;
@@ -73740,7 +73655,7 @@ static void code_f85(uint8_t *const m, const u32 last, u64 p0, u64 p1, u64 p2) {
     j1 = 24ull;
     j0 += j1;
     j1 = 1ull;
-    call(i0 = code_f92(m, last, j0, j1));
+    call(i0 = code_f91(m, last, j0, j1));
     i0 = !(i0);
     if (i0) {goto B7;}
     j0 = p2;
@@ -74896,7 +74811,7 @@ static void code_f85(uint8_t *const m, const u32 last, u64 p0, u64 p1, u64 p2) {
   return;
 }
 
-static void code_f86(uint8_t *const m, const u32 last, u64 p0, u32 p1, u64 p2) {
+static void code_f85(uint8_t *const m, const u32 last, u64 p0, u32 p1, u64 p2) {
   u32 i0, i1, i2;
   u64 j0, j1, j2;
   uint8_t *a0;
@@ -74907,7 +74822,7 @@ static void code_f86(uint8_t *const m, const u32 last, u64 p0, u32 p1, u64 p2) {
   i0 = i0 != i1;
   if (i0) {goto B0;}
   j0 = p2;
-  call(i0 = code_f95(m, last, j0));
+  call(i0 = code_f94(m, last, j0));
   i1 = 255u;
   i0 &= i1;
   i0 = !(i0);
@@ -74952,7 +74867,7 @@ static void code_f86(uint8_t *const m, const u32 last, u64 p0, u32 p1, u64 p2) {
   return;
 }
 
-static void code_f87(uint8_t *const m, const u32 last, u64 p0, u64 p1, u64 p2) {
+static void code_f86(uint8_t *const m, const u32 last, u64 p0, u64 p1, u64 p2) {
   u32 l4 = 0, l5 = 0, l6 = 0, l7 = 0;
   u64 l3 = 0;
   u32 i0, i1, i2;
@@ -75054,7 +74969,7 @@ static void code_f87(uint8_t *const m, const u32 last, u64 p0, u64 p1, u64 p2) {
   j0 += j1;
   j1 = p1;
   j2 = p2;
-  call(code_f97(m, last, j0, j1, j2));
+  call(code_f96(m, last, j0, j1, j2));
   j0 = p0;
   i0 = (u32)(j0);
   j1 = l3;
@@ -75090,7 +75005,7 @@ static void code_f87(uint8_t *const m, const u32 last, u64 p0, u64 p1, u64 p2) {
   j0 += j1;
   j1 = p1;
   j2 = p2;
-  call(code_f85(m, last, j0, j1, j2));
+  call(code_f84(m, last, j0, j1, j2));
   j0 = l3;
   i0 = (u32)(j0);
   i32_load8_u_at(i0, frame, 528);
@@ -75117,7 +75032,7 @@ static void code_f87(uint8_t *const m, const u32 last, u64 p0, u64 p1, u64 p2) {
   j0 += j1;
   i1 = l5;
   j2 = p2;
-  call(code_f86(m, last, j0, i1, j2));
+  call(code_f85(m, last, j0, i1, j2));
   j0 = l3;
   i0 = (u32)(j0);
   i32_load8_u_at(i0, frame, 424);
@@ -75204,7 +75119,7 @@ static void code_f87(uint8_t *const m, const u32 last, u64 p0, u64 p1, u64 p2) {
   j0 += j1;
   j1 = p1;
   j2 = p2;
-  call(code_f98(m, last, j0, j1, j2));
+  call(code_f97(m, last, j0, j1, j2));
   j0 = l3;
   i0 = (u32)(j0);
   i32_load8_u_at(i0, frame, 320);
@@ -75218,7 +75133,7 @@ static void code_f87(uint8_t *const m, const u32 last, u64 p0, u64 p1, u64 p2) {
   j0 += j1;
   i1 = l5;
   j2 = p2;
-  call(code_f86(m, last, j0, i1, j2));
+  call(code_f85(m, last, j0, i1, j2));
   j0 = l3;
   i0 = (u32)(j0);
   i32_load8_u_at(i0, frame, 216);
@@ -75277,7 +75192,7 @@ static void code_f87(uint8_t *const m, const u32 last, u64 p0, u64 p1, u64 p2) {
   j0 += j1;
   j1 = p1;
   j2 = p2;
-  call(code_f85(m, last, j0, j1, j2));
+  call(code_f84(m, last, j0, j1, j2));
   j0 = l3;
   i0 = (u32)(j0);
   i32_load8_u_at(i0, frame, 112);
@@ -75297,7 +75212,7 @@ static void code_f87(uint8_t *const m, const u32 last, u64 p0, u64 p1, u64 p2) {
   j0 += j1;
   i1 = l5;
   j2 = p2;
-  call(code_f86(m, last, j0, i1, j2));
+  call(code_f85(m, last, j0, i1, j2));
   j0 = l3;
   i0 = (u32)(j0);
   i32_load8_u_at(i0, frame, 8);
@@ -75418,7 +75333,7 @@ static void code_f87(uint8_t *const m, const u32 last, u64 p0, u64 p1, u64 p2) {
   return;
 }
 
-static void code_f88(uint8_t *const m, const u32 last, u64 p0, u64 p1) {
+static void code_f87(uint8_t *const m, const u32 last, u64 p0, u64 p1) {
   u64 l2 = 0, l3 = 0, l4 = 0, l5 = 0, l6 = 0, l7 = 0, l8 = 0, l9 = 0, l10 = 0, l11 = 0, l12 = 0, l13 = 0, l14 = 0;
   u32 i0, i1, i2;
   u64 j0, j1, j2;
@@ -75544,7 +75459,7 @@ static void code_f88(uint8_t *const m, const u32 last, u64 p0, u64 p1) {
   j1 = 56ull;
   j0 += j1;
   j1 = l7;
-  call(i0 = code_f93(m, last, j0, j1));
+  call(i0 = code_f92(m, last, j0, j1));
   i0 = !(i0);
   if (i0) {goto B4;}
   j0 = l2;
@@ -75840,7 +75755,7 @@ static void code_f88(uint8_t *const m, const u32 last, u64 p0, u64 p1) {
   j1 = 32ull;
   j0 += j1;
   j1 = l7;
-  call(i0 = code_f92(m, last, j0, j1));
+  call(i0 = code_f91(m, last, j0, j1));
   i0 = !(i0);
   if (i0) {goto B12;}
   j0 = l2;
@@ -76197,7 +76112,7 @@ static void code_f88(uint8_t *const m, const u32 last, u64 p0, u64 p1) {
   return;
 }
 
-static void code_f89(uint8_t *const m, const u32 last, u64 p0, u64 p1, u64 p2) {
+static void code_f88(uint8_t *const m, const u32 last, u64 p0, u64 p1, u64 p2) {
   u32 l4 = 0, l5 = 0, l6 = 0, l7 = 0;
   u64 l3 = 0;
   u32 i0, i1, i2;
@@ -76357,7 +76272,7 @@ static void code_f89(uint8_t *const m, const u32 last, u64 p0, u64 p1, u64 p2) {
   return;
 }
 
-static void code_f90(uint8_t *const m, const u32 last, u64 p0, u64 p1) {
+static void code_f89(uint8_t *const m, const u32 last, u64 p0, u64 p1) {
   u64 l2 = 0, l3 = 0, l4 = 0, l5 = 0, l6 = 0, l7 = 0, l8 = 0;
   u32 i0, i1, i2;
   u64 j0, j1, j2;
@@ -76590,7 +76505,7 @@ static void code_f90(uint8_t *const m, const u32 last, u64 p0, u64 p1) {
   B9:;
   j0 = l2;
   j1 = p1;
-  call(code_f94(m, last, j0, j1));
+  call(code_f93(m, last, j0, j1));
   j0 = l2;
   i0 = (u32)(j0);
   i32_load8_u_at(i0, frame, 0);
@@ -76719,7 +76634,7 @@ static void code_f90(uint8_t *const m, const u32 last, u64 p0, u64 p1) {
   return;
 }
 
-static void code_f91(uint8_t *const m, const u32 last, u64 p0, u64 p1) {
+static void code_f90(uint8_t *const m, const u32 last, u64 p0, u64 p1) {
   u64 l2 = 0, l3 = 0, l4 = 0, l5 = 0, l6 = 0, l7 = 0, l8 = 0, l9 = 0;
   u32 i0, i1, i2, i3;
   u64 j0, j1, j2, j3, j4;
@@ -76916,7 +76831,7 @@ static void code_f91(uint8_t *const m, const u32 last, u64 p0, u64 p1) {
   return;
 }
 
-static u32 code_f92(uint8_t *const m, const u32 last, u64 p0, u64 p1) {
+static u32 code_f91(uint8_t *const m, const u32 last, u64 p0, u64 p1) {
   u32 l6 = 0;
   u64 l2 = 0, l3 = 0, l4 = 0, l5 = 0;
   u32 i0, i1, i2;
@@ -77046,7 +76961,7 @@ static u32 code_f92(uint8_t *const m, const u32 last, u64 p0, u64 p1) {
   return 0;
 }
 
-static u32 code_f93(uint8_t *const m, const u32 last, u64 p0, u64 p1) {
+static u32 code_f92(uint8_t *const m, const u32 last, u64 p0, u64 p1) {
   u32 l6 = 0;
   u64 l2 = 0, l3 = 0, l4 = 0, l5 = 0;
   u32 i0, i1, i2;
@@ -77170,7 +77085,7 @@ static u32 code_f93(uint8_t *const m, const u32 last, u64 p0, u64 p1) {
   return 0;
 }
 
-static void code_f94(uint8_t *const m, const u32 last, u64 p0, u64 p1) {
+static void code_f93(uint8_t *const m, const u32 last, u64 p0, u64 p1) {
   u32 l6 = 0;
   u64 l2 = 0, l3 = 0, l4 = 0, l5 = 0;
   u32 i0, i1, i2;
@@ -77291,7 +77206,7 @@ static void code_f94(uint8_t *const m, const u32 last, u64 p0, u64 p1) {
   return;
 }
 
-static u32 code_f95(uint8_t *const m, const u32 last, u64 p0) {
+static u32 code_f94(uint8_t *const m, const u32 last, u64 p0) {
   u32 l13 = 0, l14 = 0;
   u64 l1 = 0, l2 = 0, l3 = 0, l4 = 0, l5 = 0, l6 = 0, l7 = 0, l8 = 0, l9 = 0, l10 = 0, l11 = 0, l12 = 0;
   u32 i0, i1;
@@ -77598,7 +77513,7 @@ static u32 code_f95(uint8_t *const m, const u32 last, u64 p0) {
     j0 += j1;
     j1 = l2;
     j2 = l3;
-    call(i0 = code_f96(m, last, j0, j1, j2));
+    call(i0 = code_f95(m, last, j0, j1, j2));
     i1 = 255u;
     i0 &= i1;
     i0 = !(i0);
@@ -77760,7 +77675,7 @@ static u32 code_f95(uint8_t *const m, const u32 last, u64 p0) {
   return 0;
 }
 
-static u32 code_f96(uint8_t *const m, const u32 last, u64 p0, u64 p1, u64 p2) {
+static u32 code_f95(uint8_t *const m, const u32 last, u64 p0, u64 p1, u64 p2) {
   u64 l3 = 0, l4 = 0, l5 = 0, l6 = 0, l7 = 0, l8 = 0, l9 = 0, l10 = 0, l11 = 0;
   u32 i0, i1, i2;
   u64 j0, j1, j2, j3;
@@ -77785,7 +77700,7 @@ static u32 code_f96(uint8_t *const m, const u32 last, u64 p0, u64 p1, u64 p2) {
   if (i0) {goto B0;}
   j0 = p0;
   j1 = p2;
-  call(i0 = code_f93(m, last, j0, j1));
+  call(i0 = code_f92(m, last, j0, j1));
   if (i0) {goto B1;}
   i0 = 1u;
   goto Bfunc;
@@ -77981,7 +77896,7 @@ static u32 code_f96(uint8_t *const m, const u32 last, u64 p0, u64 p1, u64 p2) {
   j1 = 24ull;
   j0 += j1;
   j1 = 1ull;
-  call(i0 = code_f92(m, last, j0, j1));
+  call(i0 = code_f91(m, last, j0, j1));
   if (i0) {goto B8;}
   i0 = 1u;
   goto Bfunc;
@@ -78019,7 +77934,7 @@ static u32 code_f96(uint8_t *const m, const u32 last, u64 p0, u64 p1, u64 p2) {
   return 0;
 }
 
-static void code_f97(uint8_t *const m, const u32 last, u64 p0, u64 p1, u64 p2) {
+static void code_f96(uint8_t *const m, const u32 last, u64 p0, u64 p1, u64 p2) {
   u64 l3 = 0, l4 = 0, l5 = 0, l6 = 0, l7 = 0, l8 = 0;
   u32 i0, i1, i2;
   u64 j0, j1, j2, j3;
@@ -78213,7 +78128,7 @@ static void code_f97(uint8_t *const m, const u32 last, u64 p0, u64 p1, u64 p2) {
   i64_load_at(j2, a7, 24);
   i2 = (u32)(j2);
   i64_load(j2, i2, 0);
-  call(i0 = code_f96(m, last, j0, j1, j2));
+  call(i0 = code_f95(m, last, j0, j1, j2));
   i1 = 255u;
   i0 &= i1;
   if (i0) {goto B3;}
@@ -78260,7 +78175,7 @@ static void code_f97(uint8_t *const m, const u32 last, u64 p0, u64 p1, u64 p2) {
     i64_load_at(j2, a8, 8);
     j3 = l8;
     j2 -= j3;
-    call(i0 = code_f96(m, last, j0, j1, j2));
+    call(i0 = code_f95(m, last, j0, j1, j2));
     i1 = 255u;
     i0 &= i1;
     if (i0) {goto B3;}
@@ -78286,7 +78201,7 @@ static void code_f97(uint8_t *const m, const u32 last, u64 p0, u64 p1, u64 p2) {
   i1 = (u32)(j1);
   i32_load8_u(i1, i1, 0);
   j2 = p2;
-  call(code_f86(m, last, j0, i1, j2));
+  call(code_f85(m, last, j0, i1, j2));
   j0 = p0;
   j1 = 8ull;
   j0 += j1;
@@ -78384,7 +78299,7 @@ static void code_f97(uint8_t *const m, const u32 last, u64 p0, u64 p1, u64 p2) {
   return;
 }
 
-static void code_f98(uint8_t *const m, const u32 last, u64 p0, u64 p1, u64 p2) {
+static void code_f97(uint8_t *const m, const u32 last, u64 p0, u64 p1, u64 p2) {
   u32 l4 = 0;
   u64 l3 = 0;
   u32 i0, i1, i2;
@@ -78413,7 +78328,7 @@ static void code_f98(uint8_t *const m, const u32 last, u64 p0, u64 p1, u64 p2) {
   j1 = 80ull;
   j0 += j1;
   j1 = p2;
-  call(code_f88(m, last, j0, j1));
+  call(code_f87(m, last, j0, j1));
   j0 = l3;
   i0 = (u32)(j0);
   i32_load8_u_at(i0, frame, 80);
@@ -78483,7 +78398,7 @@ static void code_f98(uint8_t *const m, const u32 last, u64 p0, u64 p1, u64 p2) {
   j0 += j1;
   j1 = p1;
   j2 = l3;
-  call(code_f99(m, last, j0, j1, j2));
+  call(code_f98(m, last, j0, j1, j2));
   j0 = l3;
   i0 = (u32)(j0);
   i64_load8_u_at(j0, frame, 176);
@@ -78541,7 +78456,7 @@ static void code_f98(uint8_t *const m, const u32 last, u64 p0, u64 p1, u64 p2) {
   return;
 }
 
-static void code_f99(uint8_t *const m, const u32 last, u64 p0, u64 p1, u64 p2) {
+static void code_f98(uint8_t *const m, const u32 last, u64 p0, u64 p1, u64 p2) {
   u32 l28 = 0, l29 = 0, l30 = 0, l31 = 0;
   u64 l3 = 0, l4 = 0, l5 = 0, l6 = 0, l7 = 0, l8 = 0, l9 = 0, l10 = 0, l11 = 0, l12 = 0, l13 = 0, l14 = 0, l15 = 0, l16 = 0, l17 = 0, l18 = 0, l19 = 0, l20 = 0, l21 = 0, l22 = 0, l23 = 0, l24 = 0, l25 = 0, l26 = 0, l27 = 0;
   u32 i0, i1, i2, i3, i4;
@@ -78713,7 +78628,7 @@ static void code_f99(uint8_t *const m, const u32 last, u64 p0, u64 p1, u64 p2) {
   j1 = l3;
   j2 = 392ull;
   j1 += j2;
-  call(code_f88(m, last, j0, j1));
+  call(code_f87(m, last, j0, j1));
   j0 = l3;
   i0 = (u32)(j0);
   i32_load8_u_at(i0, frame, 280);
@@ -79015,7 +78930,7 @@ static void code_f99(uint8_t *const m, const u32 last, u64 p0, u64 p1, u64 p2) {
   j1 = 584ull;
   j0 += j1;
   j1 = p2;
-  call(i0 = code_f100(m, last, j0, j1));
+  call(i0 = code_f99(m, last, j0, j1));
   i0 = !(i0);
   if (i0) {goto B8;}
   B9:;
@@ -79025,7 +78940,7 @@ static void code_f99(uint8_t *const m, const u32 last, u64 p0, u64 p1, u64 p2) {
   j1 = l3;
   j2 = 600ull;
   j1 += j2;
-  call(code_f101(m, last, j0, j1));
+  call(code_f100(m, last, j0, j1));
   j0 = l3;
   i0 = (u32)(j0);
   i32_load8_u_at(i0, frame, 560);
@@ -79663,7 +79578,7 @@ static void code_f99(uint8_t *const m, const u32 last, u64 p0, u64 p1, u64 p2) {
     j0 += j1;
     j1 = l13;
     j2 = p2;
-    call(i0 = code_f96(m, last, j0, j1, j2));
+    call(i0 = code_f95(m, last, j0, j1, j2));
     i1 = 255u;
     i0 &= i1;
     i0 = !(i0);
@@ -79899,7 +79814,7 @@ static void code_f99(uint8_t *const m, const u32 last, u64 p0, u64 p1, u64 p2) {
   j0 = l3;
   j1 = 392ull;
   j0 += j1;
-  call(i0 = code_f95(m, last, j0));
+  call(i0 = code_f94(m, last, j0));
   i1 = 255u;
   i0 &= i1;
   if (i0) {goto B2;}
@@ -80353,13 +80268,13 @@ static void code_f99(uint8_t *const m, const u32 last, u64 p0, u64 p1, u64 p2) {
   return;
 }
 
-static u32 code_f100(uint8_t *const m, const u32 last, u64 p0, u64 p1) {
+static u32 code_f99(uint8_t *const m, const u32 last, u64 p0, u64 p1) {
   u32 i0;
   u64 j0, j1, j2;
   j0 = p0;
   j1 = 0ull;
   j2 = p1;
-  call(j0 = code_f12(m, last, j0, j1, j2));
+  call(j0 = code_f11(m, last, j0, j1, j2));
   j1 = p1;
   i0 = j0 < j1;
   return i0;
@@ -80368,7 +80283,7 @@ static u32 code_f100(uint8_t *const m, const u32 last, u64 p0, u64 p1) {
   return 0;
 }
 
-static void code_f101(uint8_t *const m, const u32 last, u64 p0, u64 p1) {
+static void code_f100(uint8_t *const m, const u32 last, u64 p0, u64 p1) {
   u32 l8 = 0;
   u64 l2 = 0, l3 = 0, l4 = 0, l5 = 0, l6 = 0, l7 = 0;
   u32 i0, i1, i2;
@@ -80414,7 +80329,7 @@ static void code_f101(uint8_t *const m, const u32 last, u64 p0, u64 p1) {
   i64_load_at(j2, a2, 24);
   i2 = (u32)(j2);
   i64_load(j2, i2, 0);
-  call(code_f11(m, last, j0, j1, j2));
+  call(code_f10(m, last, j0, j1, j2));
   j0 = l2;
   i0 = (u32)(j0);
   i32_load8_u_at(i0, frame, 8);
@@ -80478,7 +80393,7 @@ static void code_f101(uint8_t *const m, const u32 last, u64 p0, u64 p1) {
     i64_load_at(j2, a3, 8);
     j3 = l7;
     j2 -= j3;
-    call(code_f11(m, last, j0, j1, j2));
+    call(code_f10(m, last, j0, j1, j2));
     j0 = l2;
     i0 = (u32)(j0);
     i32_load8_u_at(i0, frame, 8);
@@ -80579,7 +80494,7 @@ static void code_f101(uint8_t *const m, const u32 last, u64 p0, u64 p1) {
   i64_load(j2, i2, 0);
   j3 = l6;
   j2 -= j3;
-  call(code_f11(m, last, j0, j1, j2));
+  call(code_f10(m, last, j0, j1, j2));
   j0 = l2;
   i0 = (u32)(j0);
   i32_load8_u_at(i0, frame, 8);
@@ -80623,7 +80538,7 @@ static void code_f101(uint8_t *const m, const u32 last, u64 p0, u64 p1) {
   return;
 }
 
-static void code_f102(uint8_t *const m, const u32 last, u64 p0, u64 p1, u64 p2, u32 p3, u64 p4) {
+static void code_f101(uint8_t *const m, const u32 last, u64 p0, u64 p1, u64 p2, u32 p3, u64 p4) {
   u32 l14 = 0, l15 = 0, l16 = 0;
   u64 l5 = 0, l6 = 0, l7 = 0, l8 = 0, l9 = 0, l10 = 0, l11 = 0, l12 = 0, l13 = 0;
   u32 i0, i1;
@@ -80757,7 +80672,7 @@ static void code_f102(uint8_t *const m, const u32 last, u64 p0, u64 p1, u64 p2, 
     j0 = l5;
     j1 = 112ull;
     j0 += j1;
-    call(i0 = code_f103(m, last, j0));
+    call(i0 = code_f102(m, last, j0));
     i0 = !(i0);
     if (i0) {goto B1;}
     j0 = l5;
@@ -80858,7 +80773,7 @@ static void code_f102(uint8_t *const m, const u32 last, u64 p0, u64 p1, u64 p2, 
   j0 += j1;
   j1 = l5;
   j2 = p4;
-  call(code_f104(m, last, j0, j1, j2));
+  call(code_f103(m, last, j0, j1, j2));
   j0 = p0;
   i0 = (u32)(j0);
   j1 = l5;
@@ -80992,7 +80907,7 @@ static void code_f102(uint8_t *const m, const u32 last, u64 p0, u64 p1, u64 p2, 
   return;
 }
 
-static u32 code_f103(uint8_t *const m, const u32 last, u64 p0) {
+static u32 code_f102(uint8_t *const m, const u32 last, u64 p0) {
   u32 l6 = 0;
   u64 l1 = 0, l2 = 0, l3 = 0, l4 = 0, l5 = 0;
   u32 i0, i1, i2;
@@ -81119,7 +81034,7 @@ static u32 code_f103(uint8_t *const m, const u32 last, u64 p0) {
   return 0;
 }
 
-static void code_f104(uint8_t *const m, const u32 last, u64 p0, u64 p1, u64 p2) {
+static void code_f103(uint8_t *const m, const u32 last, u64 p0, u64 p1, u64 p2) {
   u32 l12 = 0, l13 = 0, l14 = 0, l15 = 0, l16 = 0;
   u64 l3 = 0, l4 = 0, l5 = 0, l6 = 0, l7 = 0, l8 = 0, l9 = 0, l10 = 0, l11 = 0;
   u32 i0, i1, i2, i3, i4;
@@ -81212,7 +81127,7 @@ static void code_f104(uint8_t *const m, const u32 last, u64 p0, u64 p1, u64 p2) 
   if (i0) {goto B5;}
   j0 = l6;
   j1 = l5;
-  call(code_f105(m, last, j0, j1));
+  call(code_f104(m, last, j0, j1));
   goto B4;
   B5:;
   i0 = 0u;
@@ -81488,7 +81403,7 @@ static void code_f104(uint8_t *const m, const u32 last, u64 p0, u64 p1, u64 p2) 
   i3 <<= (i4 & 31);
   i4 = 126u;
   i3 ^= i4;
-  call(code_f106(m, last, j0, j1, j2, i3));
+  call(code_f105(m, last, j0, j1, j2, i3));
   goto B4;
   B17:;
   i0 = l16;
@@ -81507,14 +81422,14 @@ static void code_f104(uint8_t *const m, const u32 last, u64 p0, u64 p1, u64 p2) 
   j2 *= j3;
   j1 += j2;
   j2 = p1;
-  call(code_f107(m, last, j0, j1, j2));
+  call(code_f106(m, last, j0, j1, j2));
   B4:;
   j0 = l8;
   j1 = l9;
   j2 = l6;
   j3 = l5;
   i4 = 0u;
-  call(code_f108(m, last, j0, j1, j2, j3, i4));
+  call(code_f107(m, last, j0, j1, j2, j3, i4));
   j0 = p0;
   j1 = 56ull;
   j0 += j1;
@@ -81628,7 +81543,7 @@ static void code_f104(uint8_t *const m, const u32 last, u64 p0, u64 p1, u64 p2) 
   return;
 }
 
-static void code_f105(uint8_t *const m, const u32 last, u64 p0, u64 p1) {
+static void code_f104(uint8_t *const m, const u32 last, u64 p0, u64 p1) {
   u32 l11 = 0, l12 = 0, l13 = 0, l14 = 0, l15 = 0, l16 = 0;
   u64 l2 = 0, l3 = 0, l4 = 0, l5 = 0, l6 = 0, l7 = 0, l8 = 0, l9 = 0, l10 = 0;
   u32 i0, i1, i2, i3;
@@ -82001,7 +81916,7 @@ static void code_f105(uint8_t *const m, const u32 last, u64 p0, u64 p1) {
   return;
 }
 
-static void code_f106(uint8_t *const m, const u32 last, u64 p0, u64 p1, u64 p2, u32 p3) {
+static void code_f105(uint8_t *const m, const u32 last, u64 p0, u64 p1, u64 p2, u32 p3) {
   u32 l21 = 0, l22 = 0, l23 = 0, l24 = 0, l25 = 0, l26 = 0, l27 = 0, l28 = 0, l29 = 0, l30 = 0;
   u64 l4 = 0, l5 = 0, l6 = 0, l7 = 0, l8 = 0, l9 = 0, l10 = 0, l11 = 0, l12 = 0, l13 = 0, l14 = 0, l15 = 0, l16 = 0, l17 = 0, l18 = 0, l19 = 0, l20 = 0;
   u32 i0, i1, i2, i3, i4;
@@ -82040,7 +81955,7 @@ static void code_f106(uint8_t *const m, const u32 last, u64 p0, u64 p1, u64 p2, 
       j0 = l9;
       j1 = l7;
       j2 = l5;
-      call(code_f109(m, last, j0, j1, j2));
+      call(code_f108(m, last, j0, j1, j2));
       j0 = l7;
       j1 = 18446744073709551615ull;
       j0 += j1;
@@ -82113,7 +82028,7 @@ static void code_f106(uint8_t *const m, const u32 last, u64 p0, u64 p1, u64 p2, 
       j3 = 18446744073709551615ull;
       j2 += j3;
       l5 = j2;
-      call(code_f109(m, last, j0, j1, j2));
+      call(code_f108(m, last, j0, j1, j2));
       j0 = l7;
       j1 = 18446744073709551592ull;
       j0 += j1;
@@ -82148,7 +82063,7 @@ static void code_f106(uint8_t *const m, const u32 last, u64 p0, u64 p1, u64 p2, 
     j1 = p1;
     j2 = l8;
     j3 = l7;
-    call(j0 = code_f110(m, last, j0, j1, j2, j3));
+    call(j0 = code_f109(m, last, j0, j1, j2, j3));
     l9 = j0;
     goto B6;
     B7:;
@@ -82157,7 +82072,7 @@ static void code_f106(uint8_t *const m, const u32 last, u64 p0, u64 p1, u64 p2, 
     j2 = l8;
     j3 = l7;
     j4 = l9;
-    call(j0 = code_f111(m, last, j0, j1, j2, j3, j4));
+    call(j0 = code_f110(m, last, j0, j1, j2, j3, j4));
     l9 = j0;
     B6:;
     i0 = p3;
@@ -83687,7 +83602,7 @@ static void code_f106(uint8_t *const m, const u32 last, u64 p0, u64 p1, u64 p2, 
     j3 = p1;
     j2 += j3;
     i3 = p3;
-    call(code_f106(m, last, j0, j1, j2, i3));
+    call(code_f105(m, last, j0, j1, j2, i3));
     B8:;
     j0 = p2;
     j1 = l9;
@@ -83706,7 +83621,7 @@ static void code_f106(uint8_t *const m, const u32 last, u64 p0, u64 p1, u64 p2, 
   j1 *= j2;
   j0 += j1;
   j1 = l5;
-  call(code_f105(m, last, j0, j1));
+  call(code_f104(m, last, j0, j1));
   B0:;
   j0 = l4;
   j1 = 80ull;
@@ -83718,7 +83633,7 @@ static void code_f106(uint8_t *const m, const u32 last, u64 p0, u64 p1, u64 p2, 
   return;
 }
 
-static void code_f107(uint8_t *const m, const u32 last, u64 p0, u64 p1, u64 p2) {
+static void code_f106(uint8_t *const m, const u32 last, u64 p0, u64 p1, u64 p2) {
   u64 l3 = 0, l4 = 0, l5 = 0, l6 = 0;
   u32 i0, i1;
   u64 j0, j1;
@@ -83801,7 +83716,7 @@ static void code_f107(uint8_t *const m, const u32 last, u64 p0, u64 p1, u64 p2) 
   return;
 }
 
-static void code_f108(uint8_t *const m, const u32 last, u64 p0, u64 p1, u64 p2, u64 p3, u32 p4) {
+static void code_f107(uint8_t *const m, const u32 last, u64 p0, u64 p1, u64 p2, u64 p3, u32 p4) {
   u32 l11 = 0, l12 = 0, l13 = 0, l14 = 0, l15 = 0, l16 = 0, l17 = 0;
   u64 l5 = 0, l6 = 0, l7 = 0, l8 = 0, l9 = 0, l10 = 0;
   u32 i0, i1, i2, i3, i4, i5;
@@ -84369,7 +84284,7 @@ static void code_f108(uint8_t *const m, const u32 last, u64 p0, u64 p1, u64 p2, 
   return;
 }
 
-static void code_f109(uint8_t *const m, const u32 last, u64 p0, u64 p1, u64 p2) {
+static void code_f108(uint8_t *const m, const u32 last, u64 p0, u64 p1, u64 p2) {
   u32 l10 = 0, l11 = 0, l12 = 0, l13 = 0;
   u64 l3 = 0, l4 = 0, l5 = 0, l6 = 0, l7 = 0, l8 = 0, l9 = 0;
   u32 i0, i1, i2, i3, i4, i5;
@@ -84683,7 +84598,7 @@ static void code_f109(uint8_t *const m, const u32 last, u64 p0, u64 p1, u64 p2) 
   return;
 }
 
-static u64 code_f110(uint8_t *const m, const u32 last, u64 p0, u64 p1, u64 p2, u64 p3) {
+static u64 code_f109(uint8_t *const m, const u32 last, u64 p0, u64 p1, u64 p2, u64 p3) {
   u32 l12 = 0, l13 = 0, l14 = 0, l15 = 0, l16 = 0;
   u64 l4 = 0, l5 = 0, l6 = 0, l7 = 0, l8 = 0, l9 = 0, l10 = 0, l11 = 0;
   u32 i0, i1, i2, i3, i4, i5;
@@ -84910,7 +84825,7 @@ static u64 code_f110(uint8_t *const m, const u32 last, u64 p0, u64 p1, u64 p2, u
   return 0;
 }
 
-static u64 code_f111(uint8_t *const m, const u32 last, u64 p0, u64 p1, u64 p2, u64 p3, u64 p4) {
+static u64 code_f110(uint8_t *const m, const u32 last, u64 p0, u64 p1, u64 p2, u64 p3, u64 p4) {
   u64 l5 = 0, l6 = 0;
   u32 i0;
   u64 j0, j1, j2, j3, j4, j5, j6, j7;
@@ -84922,7 +84837,7 @@ static u64 code_f111(uint8_t *const m, const u32 last, u64 p0, u64 p1, u64 p2, u
   j1 = p1;
   j2 = p2;
   j3 = p3;
-  call(j0 = code_f110(m, last, j0, j1, j2, j3));
+  call(j0 = code_f109(m, last, j0, j1, j2, j3));
   goto Bfunc;
   B0:;
   j0 = p0;
@@ -84944,7 +84859,7 @@ static u64 code_f111(uint8_t *const m, const u32 last, u64 p0, u64 p1, u64 p2, u
   j5 = p1;
   j4 += j5;
   j5 = p4;
-  call(j1 = code_f111(m, last, j1, j2, j3, j4, j5));
+  call(j1 = code_f110(m, last, j1, j2, j3, j4, j5));
   j2 = p0;
   j3 = p2;
   j4 = l5;
@@ -84954,7 +84869,7 @@ static u64 code_f111(uint8_t *const m, const u32 last, u64 p0, u64 p1, u64 p2, u
   j6 = p2;
   j5 += j6;
   j6 = p4;
-  call(j2 = code_f111(m, last, j2, j3, j4, j5, j6));
+  call(j2 = code_f110(m, last, j2, j3, j4, j5, j6));
   j3 = p0;
   j4 = p3;
   j5 = l5;
@@ -84964,8 +84879,8 @@ static u64 code_f111(uint8_t *const m, const u32 last, u64 p0, u64 p1, u64 p2, u
   j7 = p3;
   j6 += j7;
   j7 = p4;
-  call(j3 = code_f111(m, last, j3, j4, j5, j6, j7));
-  call(j0 = code_f110(m, last, j0, j1, j2, j3));
+  call(j3 = code_f110(m, last, j3, j4, j5, j6, j7));
+  call(j0 = code_f109(m, last, j0, j1, j2, j3));
   Bfunc:;
   return j0;
   trap:
@@ -84973,7 +84888,7 @@ static u64 code_f111(uint8_t *const m, const u32 last, u64 p0, u64 p1, u64 p2, u
   return 0;
 }
 
-static u32 code_f112(uint8_t *const m, const u32 last, u64 p0, u64 p1) {
+static u32 code_f111(uint8_t *const m, const u32 last, u64 p0, u64 p1) {
   u32 l6 = 0;
   u64 l2 = 0, l3 = 0, l4 = 0, l5 = 0;
   u32 i0, i1, i2;
@@ -85103,7 +85018,7 @@ static u32 code_f112(uint8_t *const m, const u32 last, u64 p0, u64 p1) {
   return 0;
 }
 
-static u32 code_f113(uint8_t *const m, const u32 last, u64 p0, u64 p1, u64 p2, u64 p3, u64 p4) {
+static u32 code_f112(uint8_t *const m, const u32 last, u64 p0, u64 p1, u64 p2, u64 p3, u64 p4) {
   u32 l13 = 0;
   u64 l5 = 0, l6 = 0, l7 = 0, l8 = 0, l9 = 0, l10 = 0, l11 = 0, l12 = 0;
   u32 i0, i1, i2;
@@ -85342,7 +85257,7 @@ static u32 code_f113(uint8_t *const m, const u32 last, u64 p0, u64 p1, u64 p2, u
   l13 = i0;
   j0 = p0;
   j1 = p4;
-  call(i0 = code_f126(m, last, j0, j1));
+  call(i0 = code_f125(m, last, j0, j1));
   i0 = !(i0);
   if (i0) {goto B5;}
   j0 = p0;
@@ -85527,7 +85442,7 @@ static u32 code_f113(uint8_t *const m, const u32 last, u64 p0, u64 p1, u64 p2, u
   return 0;
 }
 
-static u32 code_f114(uint8_t *const m, const u32 last, u64 p0) {
+static u32 code_f113(uint8_t *const m, const u32 last, u64 p0) {
   u32 l6 = 0;
   u64 l1 = 0, l2 = 0, l3 = 0, l4 = 0, l5 = 0;
   u32 i0, i1, i2;
@@ -85654,7 +85569,7 @@ static u32 code_f114(uint8_t *const m, const u32 last, u64 p0) {
   return 0;
 }
 
-static void code_f115(uint8_t *const m, const u32 last, u64 p0, u64 p1, u64 p2, u64 p3, u64 p4, u64 p5) {
+static void code_f114(uint8_t *const m, const u32 last, u64 p0, u64 p1, u64 p2, u64 p3, u64 p4, u64 p5) {
   u64 l6 = 0, l7 = 0, l8 = 0, l9 = 0, l10 = 0, l11 = 0, l12 = 0, l13 = 0, l14 = 0, l15 = 0, l16 = 0, l17 = 0, l18 = 0, l19 = 0, l20 = 0, l21 = 0, l22 = 0, l23 = 0, l24 = 0, l25 = 0;
   u32 i0, i1, i2;
   u64 j0, j1, j2, j3, j4;
@@ -85682,7 +85597,7 @@ static void code_f115(uint8_t *const m, const u32 last, u64 p0, u64 p1, u64 p2, 
   j0 = l6;
   j1 = 216ull;
   j0 += j1;
-  call(i0 = code_f57(m, last, j0));
+  call(i0 = code_f56(m, last, j0));
   if (i0) {goto B1;}
   j0 = l6;
   j1 = 8ull;
@@ -85695,7 +85610,7 @@ static void code_f115(uint8_t *const m, const u32 last, u64 p0, u64 p1, u64 p2, 
   i64_load_at(j2, frame, 32);
   j3 = p2;
   j4 = p3;
-  call(code_f35(m, last, j0, j1, j2, j3, j4));
+  call(code_f34(m, last, j0, j1, j2, j3, j4));
   j0 = l6;
   i0 = (u32)(j0);
   i32_load8_u_at(i0, frame, 8);
@@ -85724,7 +85639,7 @@ static void code_f115(uint8_t *const m, const u32 last, u64 p0, u64 p1, u64 p2, 
   i1 = 0u;
   j2 = p4;
   j3 = p5;
-  call(i0 = code_f127(m, last, j0, i1, j2, j3));
+  call(i0 = code_f126(m, last, j0, i1, j2, j3));
   i1 = 255u;
   i0 &= i1;
   if (i0) {goto B2;}
@@ -85963,7 +85878,7 @@ static void code_f115(uint8_t *const m, const u32 last, u64 p0, u64 p1, u64 p2, 
   return;
 }
 
-static void code_f116(uint8_t *const m, const u32 last, u64 p0, u64 p1, u64 p2) {
+static void code_f115(uint8_t *const m, const u32 last, u64 p0, u64 p1, u64 p2) {
   u32 l15 = 0;
   u64 l3 = 0, l4 = 0, l5 = 0, l6 = 0, l7 = 0, l8 = 0, l9 = 0, l10 = 0, l11 = 0, l12 = 0, l13 = 0, l14 = 0;
   u32 i0, i1, i2, i4;
@@ -86155,7 +86070,7 @@ static void code_f116(uint8_t *const m, const u32 last, u64 p0, u64 p1, u64 p2) 
   i64_load_at(j4, a0, 8);
   j5 = l12;
   j4 -= j5;
-  call(code_f59(m, last, j0, j1, i2, j3, j4));
+  call(code_f58(m, last, j0, j1, i2, j3, j4));
   j0 = l3;
   i0 = (u32)(j0);
   i32_load8_u_at(i0, frame, 0);
@@ -86195,7 +86110,7 @@ static void code_f116(uint8_t *const m, const u32 last, u64 p0, u64 p1, u64 p2) 
   return;
 }
 
-static void code_f117(uint8_t *const m, const u32 last, u64 p0, u64 p1, u32 p2) {
+static void code_f116(uint8_t *const m, const u32 last, u64 p0, u64 p1, u32 p2) {
   u32 l8 = 0, l9 = 0, l10 = 0, l11 = 0, l12 = 0, l13 = 0, l14 = 0;
   u64 l3 = 0, l4 = 0, l5 = 0, l6 = 0, l7 = 0;
   u32 i0, i1, i2, i3, i4;
@@ -86252,7 +86167,7 @@ static void code_f117(uint8_t *const m, const u32 last, u64 p0, u64 p1, u32 p2) 
   i3 = (u32)(j3);
   i64_load_at(j3, a1, 8);
   i4 = p2;
-  call(code_f108(m, last, j0, j1, j2, j3, i4));
+  call(code_f107(m, last, j0, j1, j2, j3, i4));
   j0 = l4;
   i0 = (u32)(j0);
   i1 = p2;
@@ -86318,7 +86233,7 @@ static void code_f117(uint8_t *const m, const u32 last, u64 p0, u64 p1, u32 p2) 
   i3 = (u32)(j3);
   i64_load_at(j3, a3, 8);
   i4 = p2;
-  call(code_f108(m, last, j0, j1, j2, j3, i4));
+  call(code_f107(m, last, j0, j1, j2, j3, i4));
   j0 = l5;
   i0 = (u32)(j0);
   i1 = p2;
@@ -86384,7 +86299,7 @@ static void code_f117(uint8_t *const m, const u32 last, u64 p0, u64 p1, u32 p2) 
   i3 = (u32)(j3);
   i64_load_at(j3, a5, 8);
   i4 = p2;
-  call(code_f108(m, last, j0, j1, j2, j3, i4));
+  call(code_f107(m, last, j0, j1, j2, j3, i4));
   j0 = l6;
   i0 = (u32)(j0);
   i1 = p2;
@@ -86450,7 +86365,7 @@ static void code_f117(uint8_t *const m, const u32 last, u64 p0, u64 p1, u32 p2) 
   i3 = (u32)(j3);
   i64_load_at(j3, a7, 8);
   i4 = p2;
-  call(code_f108(m, last, j0, j1, j2, j3, i4));
+  call(code_f107(m, last, j0, j1, j2, j3, i4));
   j0 = l7;
   i0 = (u32)(j0);
   i1 = p2;
@@ -87909,7 +87824,7 @@ static void code_f117(uint8_t *const m, const u32 last, u64 p0, u64 p1, u32 p2) 
   return;
 }
 
-static void code_f118(uint8_t *const m, const u32 last, u64 p0, u64 p1, u32 p2, u64 p3, u64 p4) {
+static void code_f117(uint8_t *const m, const u32 last, u64 p0, u64 p1, u32 p2, u64 p3, u64 p4) {
   u64 l5 = 0, l6 = 0, l7 = 0, l8 = 0, l9 = 0, l10 = 0, l11 = 0, l12 = 0, l13 = 0, l14 = 0;
   u32 i0, i1, i2, i3;
   u64 j0, j1, j2, j3;
@@ -87917,7 +87832,7 @@ static void code_f118(uint8_t *const m, const u32 last, u64 p0, u64 p1, u32 p2, 
   j0 = p1;
   j1 = 288ull;
   j0 += j1;
-  call(i0 = code_f57(m, last, j0));
+  call(i0 = code_f56(m, last, j0));
   i0 = !(i0);
   if (i0) {goto B2;}
   j0 = p1;
@@ -87987,7 +87902,7 @@ static void code_f118(uint8_t *const m, const u32 last, u64 p0, u64 p1, u32 p2, 
   j1 = 96ull;
   j0 += j1;
   j1 = l6;
-  call(i0 = code_f122(m, last, j0, j1));
+  call(i0 = code_f121(m, last, j0, j1));
   i0 = !(i0);
   if (i0) {goto B3;}
   j0 = p1;
@@ -88192,7 +88107,7 @@ static void code_f118(uint8_t *const m, const u32 last, u64 p0, u64 p1, u32 p2, 
   j1 = 152ull;
   j0 += j1;
   j1 = l6;
-  call(i0 = code_f122(m, last, j0, j1));
+  call(i0 = code_f121(m, last, j0, j1));
   i0 = !(i0);
   if (i0) {goto B3;}
   j0 = p1;
@@ -88429,7 +88344,7 @@ static void code_f118(uint8_t *const m, const u32 last, u64 p0, u64 p1, u32 p2, 
   return;
 }
 
-static void code_f119(uint8_t *const m, const u32 last, u64 p0) {
+static void code_f118(uint8_t *const m, const u32 last, u64 p0) {
   u32 l49 = 0;
   u64 l1 = 0, l2 = 0, l3 = 0, l4 = 0, l5 = 0, l6 = 0, l7 = 0, l8 = 0, l9 = 0, l10 = 0, l11 = 0, l12 = 0, l13 = 0, l14 = 0, l15 = 0, l16 = 0, l17 = 0, l18 = 0, l19 = 0, l20 = 0, l21 = 0, l22 = 0, l23 = 0, l24 = 0, l25 = 0, l26 = 0, l27 = 0, l28 = 0, l29 = 0, l30 = 0, l31 = 0, l32 = 0, l33 = 0, l34 = 0, l35 = 0, l36 = 0, l37 = 0, l38 = 0, l39 = 0, l40 = 0, l41 = 0, l42 = 0, l43 = 0, l44 = 0, l45 = 0, l46 = 0, l47 = 0, l48 = 0;
   u32 i0, i1, i2, i4;
@@ -88887,7 +88802,7 @@ static void code_f119(uint8_t *const m, const u32 last, u64 p0) {
   return;
 }
 
-static void code_f120(uint8_t *const m, const u32 last, u64 p0, u64 p1, u64 p2, u64 p3, u64 p4, u64 p5, u64 p6, u64 p7) {
+static void code_f119(uint8_t *const m, const u32 last, u64 p0, u64 p1, u64 p2, u64 p3, u64 p4, u64 p5, u64 p6, u64 p7) {
   u64 l8 = 0, l9 = 0, l10 = 0, l11 = 0, l12 = 0, l13 = 0, l14 = 0, l15 = 0, l16 = 0, l17 = 0, l18 = 0, l19 = 0, l20 = 0, l21 = 0, l22 = 0, l23 = 0, l24 = 0, l25 = 0;
   u32 i0, i1, i2;
   u64 j0, j1, j2, j3, j4, j5;
@@ -88918,7 +88833,7 @@ static void code_f120(uint8_t *const m, const u32 last, u64 p0, u64 p1, u64 p2, 
   j3 = p3;
   j4 = p4;
   j5 = p5;
-  call(code_f115(m, last, j0, j1, j2, j3, j4, j5));
+  call(code_f114(m, last, j0, j1, j2, j3, j4, j5));
   j0 = l8;
   i0 = (u32)(j0);
   i32_load8_u_at(i0, frame, 376);
@@ -88942,7 +88857,7 @@ static void code_f120(uint8_t *const m, const u32 last, u64 p0, u64 p1, u64 p2, 
   i1 = 1u;
   j2 = p6;
   j3 = p7;
-  call(i0 = code_f127(m, last, j0, i1, j2, j3));
+  call(i0 = code_f126(m, last, j0, i1, j2, j3));
   i1 = 255u;
   i0 &= i1;
   if (i0) {goto B1;}
@@ -89192,7 +89107,7 @@ static void code_f120(uint8_t *const m, const u32 last, u64 p0, u64 p1, u64 p2, 
   return;
 }
 
-static u32 code_f121(uint8_t *const m, const u32 last, u64 p0, u32 p1) {
+static u32 code_f120(uint8_t *const m, const u32 last, u64 p0, u32 p1) {
   u32 l4 = 0, l5 = 0, l6 = 0, l7 = 0;
   u64 l2 = 0, l3 = 0;
   u32 i0, i1, i2, i3, i4;
@@ -89325,7 +89240,7 @@ static u32 code_f121(uint8_t *const m, const u32 last, u64 p0, u32 p1) {
   i3 = (u32)(j3);
   i64_load_at(j3, a1, 8);
   i4 = p1;
-  call(code_f108(m, last, j0, j1, j2, j3, i4));
+  call(code_f107(m, last, j0, j1, j2, j3, i4));
   j0 = l3;
   i0 = (u32)(j0);
   i1 = p1;
@@ -89375,7 +89290,7 @@ static u32 code_f121(uint8_t *const m, const u32 last, u64 p0, u32 p1) {
   return 0;
 }
 
-static u32 code_f122(uint8_t *const m, const u32 last, u64 p0, u64 p1) {
+static u32 code_f121(uint8_t *const m, const u32 last, u64 p0, u64 p1) {
   u32 l6 = 0;
   u64 l2 = 0, l3 = 0, l4 = 0, l5 = 0;
   u32 i0, i1, i2;
@@ -89499,7 +89414,7 @@ static u32 code_f122(uint8_t *const m, const u32 last, u64 p0, u64 p1) {
   return 0;
 }
 
-static void code_f123(uint8_t *const m, const u32 last, u64 p0, u64 p1) {
+static void code_f122(uint8_t *const m, const u32 last, u64 p0, u64 p1) {
   u64 l2 = 0, l3 = 0, l4 = 0;
   u32 i0, i1, i2;
   u64 j0, j1, j2;
@@ -89522,7 +89437,7 @@ static void code_f123(uint8_t *const m, const u32 last, u64 p0, u64 p1) {
   i1 = (u32)(j1);
   reach(a0, i1, 0, 25);
   i64_load_at(j1, a0, 0);
-  call(code_f67(m, last, j0, j1));
+  call(code_f66(m, last, j0, j1));
   j0 = l2;
   j1 = 8ull;
   j0 += j1;
@@ -89548,7 +89463,7 @@ static void code_f123(uint8_t *const m, const u32 last, u64 p0, u64 p1) {
   j1 += j2;
   i1 = (u32)(j1);
   i64_load_at(j1, a0, 8);
-  call(code_f67(m, last, j0, j1));
+  call(code_f66(m, last, j0, j1));
   j0 = l2;
   j1 = 8ull;
   j0 += j1;
@@ -89574,7 +89489,7 @@ static void code_f123(uint8_t *const m, const u32 last, u64 p0, u64 p1) {
   j1 += j2;
   i1 = (u32)(j1);
   i64_load_at(j1, a0, 16);
-  call(code_f67(m, last, j0, j1));
+  call(code_f66(m, last, j0, j1));
   j0 = l2;
   j1 = 8ull;
   j0 += j1;
@@ -89600,7 +89515,7 @@ static void code_f123(uint8_t *const m, const u32 last, u64 p0, u64 p1) {
   j1 += j2;
   i1 = (u32)(j1);
   i64_load_at(j1, a0, 24);
-  call(code_f67(m, last, j0, j1));
+  call(code_f66(m, last, j0, j1));
   j0 = l2;
   j1 = 8ull;
   j0 += j1;
@@ -89647,7 +89562,7 @@ static void code_f123(uint8_t *const m, const u32 last, u64 p0, u64 p1) {
   j1 += j2;
   i1 = (u32)(j1);
   i64_load(j1, i1, 0);
-  call(code_f67(m, last, j0, j1));
+  call(code_f66(m, last, j0, j1));
   j0 = l2;
   i0 = (u32)(j0);
   i64_load_at(j0, frame, 136);
@@ -89675,7 +89590,7 @@ static void code_f123(uint8_t *const m, const u32 last, u64 p0, u64 p1) {
   j1 += j2;
   i1 = (u32)(j1);
   i64_load(j1, i1, 0);
-  call(code_f67(m, last, j0, j1));
+  call(code_f66(m, last, j0, j1));
   j0 = l2;
   j1 = 8ull;
   j0 += j1;
@@ -89712,7 +89627,7 @@ static void code_f123(uint8_t *const m, const u32 last, u64 p0, u64 p1) {
   return;
 }
 
-static void code_f124(uint8_t *const m, const u32 last, u64 p0, u64 p1) {
+static void code_f123(uint8_t *const m, const u32 last, u64 p0, u64 p1) {
   u64 l2 = 0, l3 = 0, l4 = 0;
   u32 i0, i1, i2, i4;
   u64 j0, j1, j2, j3, j4, j5;
@@ -89743,7 +89658,7 @@ static void code_f124(uint8_t *const m, const u32 last, u64 p0, u64 p1) {
   i1 = (u32)(j1);
   reach(a0, i1, 0, 8);
   i64_load_at(j1, a0, 0);
-  call(code_f67(m, last, j0, j1));
+  call(code_f66(m, last, j0, j1));
   j0 = l2;
   j1 = 8ull;
   j0 += j1;
@@ -89769,7 +89684,7 @@ static void code_f124(uint8_t *const m, const u32 last, u64 p0, u64 p1) {
   j1 += j2;
   i1 = (u32)(j1);
   i64_load_at(j1, a0, 8);
-  call(code_f67(m, last, j0, j1));
+  call(code_f66(m, last, j0, j1));
   j0 = l2;
   j1 = 8ull;
   j0 += j1;
@@ -89829,7 +89744,7 @@ static void code_f124(uint8_t *const m, const u32 last, u64 p0, u64 p1) {
   j2 = 1051501ull;
   j3 = 8ull;
   j4 = 0ull;
-  call(code_f128(m, last, j0, j1, j2, j3, j4));
+  call(code_f127(m, last, j0, j1, j2, j3, j4));
   goto B3;
   B5:;
   j0 = l2;
@@ -89843,7 +89758,7 @@ static void code_f124(uint8_t *const m, const u32 last, u64 p0, u64 p1) {
   j4 += j5;
   i4 = (u32)(j4);
   i64_load8_u(j4, i4, 0);
-  call(code_f128(m, last, j0, j1, j2, j3, j4));
+  call(code_f127(m, last, j0, j1, j2, j3, j4));
   goto B3;
   B4:;
   j0 = p1;
@@ -89866,7 +89781,7 @@ static void code_f124(uint8_t *const m, const u32 last, u64 p0, u64 p1) {
   j2 = 1051512ull;
   j3 = 5ull;
   j4 = l4;
-  call(code_f128(m, last, j0, j1, j2, j3, j4));
+  call(code_f127(m, last, j0, j1, j2, j3, j4));
   goto B3;
   B7:;
   j0 = l2;
@@ -89876,7 +89791,7 @@ static void code_f124(uint8_t *const m, const u32 last, u64 p0, u64 p1) {
   j2 = 1051517ull;
   j3 = 5ull;
   j4 = l4;
-  call(code_f128(m, last, j0, j1, j2, j3, j4));
+  call(code_f127(m, last, j0, j1, j2, j3, j4));
   B3:;
   j0 = p0;
   i0 = (u32)(j0);
@@ -89897,7 +89812,7 @@ static void code_f124(uint8_t *const m, const u32 last, u64 p0, u64 p1) {
   return;
 }
 
-static void code_f125(uint8_t *const m, const u32 last, u64 p0, u64 p1) {
+static void code_f124(uint8_t *const m, const u32 last, u64 p0, u64 p1) {
   u64 l2 = 0, l3 = 0, l4 = 0, l5 = 0, l6 = 0, l7 = 0, l8 = 0, l9 = 0, l10 = 0, l11 = 0, l12 = 0, l13 = 0, l14 = 0, l15 = 0, l16 = 0, l17 = 0, l18 = 0, l19 = 0, l20 = 0, l21 = 0, l22 = 0, l23 = 0;
   u32 i0, i1, i2;
   u64 j0, j1, j2;
@@ -90110,7 +90025,7 @@ static void code_f125(uint8_t *const m, const u32 last, u64 p0, u64 p1) {
   return;
 }
 
-static u32 code_f126(uint8_t *const m, const u32 last, u64 p0, u64 p1) {
+static u32 code_f125(uint8_t *const m, const u32 last, u64 p0, u64 p1) {
   u32 l6 = 0;
   u64 l2 = 0, l3 = 0, l4 = 0, l5 = 0;
   u32 i0, i1, i2;
@@ -90234,7 +90149,7 @@ static u32 code_f126(uint8_t *const m, const u32 last, u64 p0, u64 p1) {
   return 0;
 }
 
-static u32 code_f127(uint8_t *const m, const u32 last, u64 p0, u32 p1, u64 p2, u64 p3) {
+static u32 code_f126(uint8_t *const m, const u32 last, u64 p0, u32 p1, u64 p2, u64 p3) {
   u64 l4 = 0, l5 = 0, l6 = 0, l7 = 0, l8 = 0, l9 = 0, l10 = 0;
   u32 i0, i1, i2, i3;
   u64 j0, j1, j2, j3;
@@ -90245,7 +90160,7 @@ static u32 code_f127(uint8_t *const m, const u32 last, u64 p0, u32 p1, u64 p2, u
   j0 = p0;
   j1 = 224ull;
   j0 += j1;
-  call(i0 = code_f57(m, last, j0));
+  call(i0 = code_f56(m, last, j0));
   i0 = !(i0);
   if (i0) {goto B2;}
   j0 = p0;
@@ -90691,14 +90606,14 @@ static u32 code_f127(uint8_t *const m, const u32 last, u64 p0, u32 p1, u64 p2, u
   return 0;
 }
 
-static void code_f128(uint8_t *const m, const u32 last, u64 p0, u64 p1, u64 p2, u64 p3, u64 p4) {
+static void code_f127(uint8_t *const m, const u32 last, u64 p0, u64 p1, u64 p2, u64 p3, u64 p4) {
   u64 l5 = 0, l6 = 0;
   u32 i0, i1, i2;
   u64 j0, j1, j2;
   uint8_t *a0, *a1, *a2;
   j0 = p0;
   j1 = p1;
-  call(code_f67(m, last, j0, j1));
+  call(code_f66(m, last, j0, j1));
   j0 = p0;
   j1 = p0;
   j2 = 128ull;
@@ -90720,7 +90635,7 @@ static void code_f128(uint8_t *const m, const u32 last, u64 p0, u64 p1, u64 p2, 
   i64_store_at(j1, a0, 0);
   j0 = p0;
   j1 = p1;
-  call(code_f67(m, last, j0, j1));
+  call(code_f66(m, last, j0, j1));
   j0 = p0;
   j1 = l5;
   i1 = (u32)(j1);
@@ -90849,7 +90764,7 @@ static void code_f128(uint8_t *const m, const u32 last, u64 p0, u64 p1, u64 p2, 
   i64_store_at(j1, a0, 0);
   j0 = p0;
   j1 = p4;
-  call(code_f67(m, last, j0, j1));
+  call(code_f66(m, last, j0, j1));
   j0 = p0;
   j1 = p3;
   i1 = (u32)(j1);
@@ -90871,7 +90786,7 @@ static void code_f128(uint8_t *const m, const u32 last, u64 p0, u64 p1, u64 p2, 
   return;
 }
 
-static void code_f129(uint8_t *const m, const u32 last, u64 p0, u64 p1, u64 p2) {
+static void code_f128(uint8_t *const m, const u32 last, u64 p0, u64 p1, u64 p2) {
   u32 l31 = 0, l32 = 0, l33 = 0, l34 = 0, l35 = 0, l36 = 0, l37 = 0, l38 = 0, l39 = 0, l40 = 0;
   u64 l3 = 0, l4 = 0, l5 = 0, l6 = 0, l7 = 0, l8 = 0, l9 = 0, l10 = 0, l11 = 0, l12 = 0, l13 = 0, l14 = 0, l15 = 0, l16 = 0, l17 = 0, l18 = 0, l19 = 0, l20 = 0, l21 = 0, l22 = 0, l23 = 0, l24 = 0, l25 = 0, l26 = 0, l27 = 0, l28 = 0, l29 = 0, l30 = 0;
   u32 i0, i1, i2, i3, i4, i5;
@@ -90959,7 +90874,7 @@ static void code_f129(uint8_t *const m, const u32 last, u64 p0, u64 p1, u64 p2) 
   j5 = 2152ull;
   j4 += j5;
   l6 = j4;
-  call(code_f130(m, last, j0, j1, j2, j3, j4));
+  call(code_f129(m, last, j0, j1, j2, j3, j4));
   j0 = l3;
   i0 = (u32)(j0);
   i32_load_at(i0, frame, 2656);
@@ -91036,7 +90951,7 @@ static void code_f129(uint8_t *const m, const u32 last, u64 p0, u64 p1, u64 p2) 
     j2 = 1784ull;
     j1 += j2;
     i2 = l31;
-    call(code_f117(m, last, j0, j1, i2));
+    call(code_f116(m, last, j0, j1, i2));
     j0 = l3;
     i0 = (u32)(j0);
     j1 = l3;
@@ -91076,7 +90991,7 @@ static void code_f129(uint8_t *const m, const u32 last, u64 p0, u64 p1, u64 p2) 
     j2 += j3;
     i3 = l32;
     j4 = l9;
-    call(code_f36(m, last, j0, j1, j2, i3, j4));
+    call(code_f35(m, last, j0, j1, j2, i3, j4));
     j0 = l3;
     i0 = (u32)(j0);
     i64_load_at(j0, frame, 2184);
@@ -91292,7 +91207,7 @@ static void code_f129(uint8_t *const m, const u32 last, u64 p0, u64 p1, u64 p2) 
       i2 = 0u;
       j3 = l4;
       j4 = l5;
-      call(code_f118(m, last, j0, j1, i2, j3, j4));
+      call(code_f117(m, last, j0, j1, i2, j3, j4));
       j0 = l3;
       i0 = (u32)(j0);
       i32_load8_u_at(i0, frame, 8);
@@ -91328,7 +91243,7 @@ static void code_f129(uint8_t *const m, const u32 last, u64 p0, u64 p1, u64 p2) 
     i3 = (u32)(j3);
     i64_load_at(j3, frame, 1536);
     j4 = l6;
-    call(code_f130(m, last, j0, j1, j2, j3, j4));
+    call(code_f129(m, last, j0, j1, j2, j3, j4));
     j0 = l3;
     i0 = (u32)(j0);
     i32_load_at(i0, frame, 2656);
@@ -91364,7 +91279,7 @@ static void code_f129(uint8_t *const m, const u32 last, u64 p0, u64 p1, u64 p2) 
   j0 = l3;
   j1 = 568ull;
   j0 += j1;
-  call(code_f119(m, last, j0));
+  call(code_f118(m, last, j0));
   i0 = 1u;
   l33 = i0;
   i0 = 7u;
@@ -91396,7 +91311,7 @@ static void code_f129(uint8_t *const m, const u32 last, u64 p0, u64 p1, u64 p2) 
   j0 = l3;
   j1 = 568ull;
   j0 += j1;
-  call(code_f119(m, last, j0));
+  call(code_f118(m, last, j0));
   goto B5;
   B30:;
   j0 = l3;
@@ -91484,7 +91399,7 @@ static void code_f129(uint8_t *const m, const u32 last, u64 p0, u64 p1, u64 p2) 
       j2 = 1440ull;
       j1 += j2;
       j2 = p2;
-      call(code_f131(m, last, j0, j1, j2));
+      call(code_f130(m, last, j0, j1, j2));
       i0 = 1u;
       l34 = i0;
       j0 = l3;
@@ -91615,7 +91530,7 @@ static void code_f129(uint8_t *const m, const u32 last, u64 p0, u64 p1, u64 p2) 
       j2 = 1440ull;
       j1 += j2;
       j2 = p2;
-      call(code_f131(m, last, j0, j1, j2));
+      call(code_f130(m, last, j0, j1, j2));
       i0 = 1u;
       l34 = i0;
       j0 = l3;
@@ -91691,7 +91606,7 @@ static void code_f129(uint8_t *const m, const u32 last, u64 p0, u64 p1, u64 p2) 
     j1 = l3;
     i1 = (u32)(j1);
     i32_load_at(i1, frame, 1568);
-    call(i0 = code_f121(m, last, j0, i1));
+    call(i0 = code_f120(m, last, j0, i1));
     l32 = i0;
     j0 = l3;
     i0 = (u32)(j0);
@@ -92008,7 +91923,7 @@ static void code_f129(uint8_t *const m, const u32 last, u64 p0, u64 p1, u64 p2) 
         j1 = 96ull;
         j0 += j1;
         j1 = l6;
-        call(i0 = code_f122(m, last, j0, j1));
+        call(i0 = code_f121(m, last, j0, j1));
         i0 = !(i0);
         if (i0) {goto B72;}
         j0 = p2;
@@ -92304,7 +92219,7 @@ static void code_f129(uint8_t *const m, const u32 last, u64 p0, u64 p1, u64 p2) 
   j0 = l3;
   j1 = 568ull;
   j0 += j1;
-  call(code_f119(m, last, j0));
+  call(code_f118(m, last, j0));
   i0 = 0u;
   l31 = i0;
   goto B6;
@@ -92357,7 +92272,7 @@ static void code_f129(uint8_t *const m, const u32 last, u64 p0, u64 p1, u64 p2) 
     i2 = 0u;
     j3 = l4;
     j4 = p1;
-    call(code_f118(m, last, j0, j1, i2, j3, j4));
+    call(code_f117(m, last, j0, j1, i2, j3, j4));
     i0 = 1u;
     l33 = i0;
     i0 = 6u;
@@ -92451,7 +92366,7 @@ static void code_f129(uint8_t *const m, const u32 last, u64 p0, u64 p1, u64 p2) 
     j2 = 1400ull;
     j1 += j2;
     i2 = l32;
-    call(code_f117(m, last, j0, j1, i2));
+    call(code_f116(m, last, j0, j1, i2));
     j0 = l3;
     i0 = (u32)(j0);
     i32_load8_u_at(i0, frame, 2650);
@@ -92482,7 +92397,7 @@ static void code_f129(uint8_t *const m, const u32 last, u64 p0, u64 p1, u64 p2) 
     B82:;
     j0 = l14;
     i1 = l32;
-    call(i0 = code_f121(m, last, j0, i1));
+    call(i0 = code_f120(m, last, j0, i1));
     l38 = i0;
     j0 = l3;
     i0 = (u32)(j0);
@@ -92879,7 +92794,7 @@ static void code_f129(uint8_t *const m, const u32 last, u64 p0, u64 p1, u64 p2) 
     j1 = l3;
     j2 = 2416ull;
     j1 += j2;
-    call(i0 = code_f132(m, last, j0, j1));
+    call(i0 = code_f131(m, last, j0, j1));
     i1 = 255u;
     i0 &= i1;
     if (i0) {goto B101;}
@@ -92917,7 +92832,7 @@ static void code_f129(uint8_t *const m, const u32 last, u64 p0, u64 p1, u64 p2) 
   j1 = l3;
   j2 = 2280ull;
   j1 += j2;
-  call(i0 = code_f132(m, last, j0, j1));
+  call(i0 = code_f131(m, last, j0, j1));
   i1 = 255u;
   i0 &= i1;
   if (i0) {goto B78;}
@@ -92978,7 +92893,7 @@ static void code_f129(uint8_t *const m, const u32 last, u64 p0, u64 p1, u64 p2) 
   j1 = 568ull;
   j0 += j1;
   j1 = p1;
-  call(code_f67(m, last, j0, j1));
+  call(code_f66(m, last, j0, j1));
   j0 = l3;
   i0 = (u32)(j0);
   i64_load_at(j0, frame, 696);
@@ -93002,7 +92917,7 @@ static void code_f129(uint8_t *const m, const u32 last, u64 p0, u64 p1, u64 p2) 
   j1 = 568ull;
   j0 += j1;
   j1 = l5;
-  call(code_f67(m, last, j0, j1));
+  call(code_f66(m, last, j0, j1));
   j0 = l3;
   j1 = 568ull;
   j0 += j1;
@@ -93070,7 +92985,7 @@ static void code_f129(uint8_t *const m, const u32 last, u64 p0, u64 p1, u64 p2) 
   j1 = 2648ull;
   j0 += j1;
   j1 = l4;
-  call(code_f67(m, last, j0, j1));
+  call(code_f66(m, last, j0, j1));
   j0 = l3;
   j1 = 2648ull;
   j0 += j1;
@@ -93092,7 +93007,7 @@ static void code_f129(uint8_t *const m, const u32 last, u64 p0, u64 p1, u64 p2) 
   j1 = 2648ull;
   j0 += j1;
   j1 = p1;
-  call(code_f67(m, last, j0, j1));
+  call(code_f66(m, last, j0, j1));
   j0 = l3;
   j1 = 2648ull;
   j0 += j1;
@@ -93126,7 +93041,7 @@ static void code_f129(uint8_t *const m, const u32 last, u64 p0, u64 p1, u64 p2) 
     i2 = 0u;
     j3 = l4;
     j4 = p1;
-    call(code_f118(m, last, j0, j1, i2, j3, j4));
+    call(code_f117(m, last, j0, j1, i2, j3, j4));
     j0 = l3;
     i0 = (u32)(j0);
     i32_load8_u_at(i0, frame, 536);
@@ -93612,7 +93527,7 @@ static void code_f129(uint8_t *const m, const u32 last, u64 p0, u64 p1, u64 p2) 
     i2 = 0u;
     j3 = l4;
     j4 = p1;
-    call(code_f118(m, last, j0, j1, i2, j3, j4));
+    call(code_f117(m, last, j0, j1, i2, j3, j4));
     j0 = l3;
     i0 = (u32)(j0);
     i32_load8_u_at(i0, frame, 520);
@@ -93650,7 +93565,7 @@ static void code_f129(uint8_t *const m, const u32 last, u64 p0, u64 p1, u64 p2) 
     i2 = 1u;
     j3 = p1;
     j4 = l4;
-    call(code_f118(m, last, j0, j1, i2, j3, j4));
+    call(code_f117(m, last, j0, j1, i2, j3, j4));
     j0 = l3;
     i0 = (u32)(j0);
     i32_load8_u_at(i0, frame, 504);
@@ -93692,7 +93607,7 @@ static void code_f129(uint8_t *const m, const u32 last, u64 p0, u64 p1, u64 p2) 
   j5 = 1480ull;
   j4 += j5;
   l18 = j4;
-  call(code_f130(m, last, j0, j1, j2, j3, j4));
+  call(code_f129(m, last, j0, j1, j2, j3, j4));
   j0 = l3;
   i0 = (u32)(j0);
   i32_load_at(i0, frame, 576);
@@ -94072,7 +93987,7 @@ static void code_f129(uint8_t *const m, const u32 last, u64 p0, u64 p1, u64 p2) 
     i1 = l31;
     j1 = (u64)(i1);
     l19 = j1;
-    call(code_f133(m, last, j0, j1));
+    call(code_f132(m, last, j0, j1));
     j0 = l3;
     i0 = (u32)(j0);
     i64_load_at(j0, frame, 1520);
@@ -94098,7 +94013,7 @@ static void code_f129(uint8_t *const m, const u32 last, u64 p0, u64 p1, u64 p2) 
       i2 = 0u;
       j3 = l4;
       j4 = p1;
-      call(code_f118(m, last, j0, j1, i2, j3, j4));
+      call(code_f117(m, last, j0, j1, i2, j3, j4));
       j0 = l3;
       i0 = (u32)(j0);
       i32_load8_u_at(i0, frame, 472);
@@ -94319,7 +94234,7 @@ static void code_f129(uint8_t *const m, const u32 last, u64 p0, u64 p1, u64 p2) 
       j4 = 0ull;
       i3 = (u64)((s64)j3 < (s64)j4);
       j1 = i3 ? j1 : j2;
-      call(code_f133(m, last, j0, j1));
+      call(code_f132(m, last, j0, j1));
       j0 = l10;
       j1 = 18446744073709551615ull;
       i0 = (u64)((s64)j0 > (s64)j1);
@@ -94378,7 +94293,7 @@ static void code_f129(uint8_t *const m, const u32 last, u64 p0, u64 p1, u64 p2) 
       j4 = 0ull;
       i3 = (u64)((s64)j3 < (s64)j4);
       j1 = i3 ? j1 : j2;
-      call(code_f133(m, last, j0, j1));
+      call(code_f132(m, last, j0, j1));
       j0 = l10;
       j1 = 18446744073709551615ull;
       i0 = (u64)((s64)j0 > (s64)j1);
@@ -94431,7 +94346,7 @@ static void code_f129(uint8_t *const m, const u32 last, u64 p0, u64 p1, u64 p2) 
       j4 = 0ull;
       i3 = (u64)((s64)j3 < (s64)j4);
       j1 = i3 ? j1 : j2;
-      call(code_f133(m, last, j0, j1));
+      call(code_f132(m, last, j0, j1));
       j0 = l4;
       j1 = 18446744073709551615ull;
       i0 = (u64)((s64)j0 > (s64)j1);
@@ -94632,7 +94547,7 @@ static void code_f129(uint8_t *const m, const u32 last, u64 p0, u64 p1, u64 p2) 
       i32_store8(i1, i0, 0);
       j0 = l8;
       j1 = l19;
-      call(code_f133(m, last, j0, j1));
+      call(code_f132(m, last, j0, j1));
       j0 = 1ull;
       l12 = j0;
       j0 = l3;
@@ -94660,7 +94575,7 @@ static void code_f129(uint8_t *const m, const u32 last, u64 p0, u64 p1, u64 p2) 
         i2 = 1u;
         j3 = l4;
         j4 = p1;
-        call(code_f118(m, last, j0, j1, i2, j3, j4));
+        call(code_f117(m, last, j0, j1, i2, j3, j4));
         j0 = l3;
         i0 = (u32)(j0);
         i32_load8_u_at(i0, frame, 456);
@@ -94728,7 +94643,7 @@ static void code_f129(uint8_t *const m, const u32 last, u64 p0, u64 p1, u64 p2) 
     j2 = p2;
     j3 = p1;
     j4 = l18;
-    call(code_f130(m, last, j0, j1, j2, j3, j4));
+    call(code_f129(m, last, j0, j1, j2, j3, j4));
     j0 = l3;
     i0 = (u32)(j0);
     i32_load_at(i0, frame, 576);
@@ -94772,7 +94687,7 @@ static void code_f129(uint8_t *const m, const u32 last, u64 p0, u64 p1, u64 p2) 
   i32_store8(i1, i0, 0);
   j0 = l8;
   j1 = l4;
-  call(code_f133(m, last, j0, j1));
+  call(code_f132(m, last, j0, j1));
   j0 = l3;
   i0 = (u32)(j0);
   j1 = l3;
@@ -94792,7 +94707,7 @@ static void code_f129(uint8_t *const m, const u32 last, u64 p0, u64 p1, u64 p2) 
   i32_store8(i1, i0, 0);
   j0 = l8;
   j1 = p1;
-  call(code_f133(m, last, j0, j1));
+  call(code_f132(m, last, j0, j1));
   j0 = l3;
   i0 = (u32)(j0);
   j1 = l3;
@@ -94849,7 +94764,7 @@ static void code_f129(uint8_t *const m, const u32 last, u64 p0, u64 p1, u64 p2) 
     i2 = 1u;
     j3 = l4;
     j4 = p1;
-    call(code_f118(m, last, j0, j1, i2, j3, j4));
+    call(code_f117(m, last, j0, j1, i2, j3, j4));
     j0 = l3;
     i0 = (u32)(j0);
     i32_load8_u_at(i0, frame, 488);
@@ -95068,7 +94983,7 @@ static void code_f129(uint8_t *const m, const u32 last, u64 p0, u64 p1, u64 p2) 
     i2 = 1u;
     j3 = l4;
     j4 = p1;
-    call(code_f118(m, last, j0, j1, i2, j3, j4));
+    call(code_f117(m, last, j0, j1, i2, j3, j4));
     j0 = l3;
     i0 = (u32)(j0);
     i32_load8_u_at(i0, frame, 440);
@@ -95160,7 +95075,7 @@ static void code_f129(uint8_t *const m, const u32 last, u64 p0, u64 p1, u64 p2) 
       j2 = 1440ull;
       j1 += j2;
       j2 = p2;
-      call(code_f131(m, last, j0, j1, j2));
+      call(code_f130(m, last, j0, j1, j2));
       j0 = l3;
       i0 = (u32)(j0);
       i32_load8_u_at(i0, frame, 424);
@@ -95293,7 +95208,7 @@ static void code_f129(uint8_t *const m, const u32 last, u64 p0, u64 p1, u64 p2) 
       j2 = 1440ull;
       j1 += j2;
       j2 = p2;
-      call(code_f131(m, last, j0, j1, j2));
+      call(code_f130(m, last, j0, j1, j2));
       j0 = l3;
       i0 = (u32)(j0);
       i32_load8_u_at(i0, frame, 408);
@@ -96071,7 +95986,7 @@ static void code_f129(uint8_t *const m, const u32 last, u64 p0, u64 p1, u64 p2) 
     if (i0) {goto B193;}
     j0 = l20;
     j1 = p2;
-    call(i0 = code_f134(m, last, j0, j1));
+    call(i0 = code_f133(m, last, j0, j1));
     i1 = 255u;
     i0 &= i1;
     i0 = !(i0);
@@ -96151,7 +96066,7 @@ static void code_f129(uint8_t *const m, const u32 last, u64 p0, u64 p1, u64 p2) 
     j2 = 1440ull;
     j1 += j2;
     j2 = p2;
-    call(code_f131(m, last, j0, j1, j2));
+    call(code_f130(m, last, j0, j1, j2));
     j0 = l3;
     i0 = (u32)(j0);
     i32_load8_u_at(i0, frame, 392);
@@ -96184,7 +96099,7 @@ static void code_f129(uint8_t *const m, const u32 last, u64 p0, u64 p1, u64 p2) 
     if (i0) {goto B217;}
     j0 = p1;
     j1 = p2;
-    call(i0 = code_f134(m, last, j0, j1));
+    call(i0 = code_f133(m, last, j0, j1));
     i1 = 255u;
     i0 &= i1;
     i0 = !(i0);
@@ -96196,7 +96111,7 @@ static void code_f129(uint8_t *const m, const u32 last, u64 p0, u64 p1, u64 p2) 
   j1 = l3;
   j2 = 2096ull;
   j1 += j2;
-  call(i0 = code_f135(m, last, j0, j1));
+  call(i0 = code_f134(m, last, j0, j1));
   i1 = 255u;
   i0 &= i1;
   if (i0) {goto B216;}
@@ -96235,7 +96150,7 @@ static void code_f129(uint8_t *const m, const u32 last, u64 p0, u64 p1, u64 p2) 
   j1 = 568ull;
   j0 += j1;
   j1 = p1;
-  call(code_f67(m, last, j0, j1));
+  call(code_f66(m, last, j0, j1));
   j0 = l3;
   j1 = 568ull;
   j0 += j1;
@@ -96282,7 +96197,7 @@ static void code_f129(uint8_t *const m, const u32 last, u64 p0, u64 p1, u64 p2) 
     i2 = 1u;
     j3 = l4;
     j4 = p1;
-    call(code_f118(m, last, j0, j1, i2, j3, j4));
+    call(code_f117(m, last, j0, j1, i2, j3, j4));
     j0 = l3;
     i0 = (u32)(j0);
     i32_load8_u_at(i0, frame, 376);
@@ -96484,7 +96399,7 @@ static void code_f129(uint8_t *const m, const u32 last, u64 p0, u64 p1, u64 p2) 
   j0 = l3;
   j1 = 2416ull;
   j0 += j1;
-  call(code_f72(m, last, j0));
+  call(code_f71(m, last, j0));
   j0 = l19;
   i0 = !(j0);
   if (i0) {goto B222;}
@@ -96645,7 +96560,7 @@ static void code_f129(uint8_t *const m, const u32 last, u64 p0, u64 p1, u64 p2) 
     i2 = 1u;
     j3 = l4;
     j4 = p1;
-    call(code_f118(m, last, j0, j1, i2, j3, j4));
+    call(code_f117(m, last, j0, j1, i2, j3, j4));
     j0 = l3;
     i0 = (u32)(j0);
     i32_load8_u_at(i0, frame, 360);
@@ -96676,7 +96591,7 @@ static void code_f129(uint8_t *const m, const u32 last, u64 p0, u64 p1, u64 p2) 
     i2 = 1u;
     j3 = l4;
     j4 = p1;
-    call(code_f118(m, last, j0, j1, i2, j3, j4));
+    call(code_f117(m, last, j0, j1, i2, j3, j4));
     j0 = l3;
     i0 = (u32)(j0);
     i32_load8_u_at(i0, frame, 344);
@@ -96759,7 +96674,7 @@ static void code_f129(uint8_t *const m, const u32 last, u64 p0, u64 p1, u64 p2) 
       j2 = 1440ull;
       j1 += j2;
       j2 = p2;
-      call(code_f131(m, last, j0, j1, j2));
+      call(code_f130(m, last, j0, j1, j2));
       j0 = l3;
       i0 = (u32)(j0);
       i32_load8_u_at(i0, frame, 328);
@@ -96883,7 +96798,7 @@ static void code_f129(uint8_t *const m, const u32 last, u64 p0, u64 p1, u64 p2) 
       j2 = 1440ull;
       j1 += j2;
       j2 = p2;
-      call(code_f131(m, last, j0, j1, j2));
+      call(code_f130(m, last, j0, j1, j2));
       j0 = 0ull;
       l4 = j0;
       j0 = l3;
@@ -97076,7 +96991,7 @@ static void code_f129(uint8_t *const m, const u32 last, u64 p0, u64 p1, u64 p2) 
     j4 = l12;
     j5 = 1ull;
     j4 += j5;
-    call(code_f16(m, last, j0, j1, j2, j3, j4));
+    call(code_f15(m, last, j0, j1, j2, j3, j4));
     j0 = l3;
     i0 = (u32)(j0);
     i32_load8_u_at(i0, frame, 568);
@@ -97404,7 +97319,7 @@ static void code_f129(uint8_t *const m, const u32 last, u64 p0, u64 p1, u64 p2) 
     j1 = l3;
     j2 = 2600ull;
     j1 += j2;
-    call(code_f124(m, last, j0, j1));
+    call(code_f123(m, last, j0, j1));
     j0 = l3;
     j1 = 2648ull;
     j0 += j1;
@@ -97421,7 +97336,7 @@ static void code_f129(uint8_t *const m, const u32 last, u64 p0, u64 p1, u64 p2) 
     j2 = l3;
     j3 = 2648ull;
     j2 += j3;
-    call(i0 = code_f136(m, last, j0, i1, j2));
+    call(i0 = code_f135(m, last, j0, i1, j2));
     i1 = 255u;
     i0 &= i1;
     if (i0) {goto B238;}
@@ -97431,7 +97346,7 @@ static void code_f129(uint8_t *const m, const u32 last, u64 p0, u64 p1, u64 p2) 
     j1 = l3;
     j2 = 2552ull;
     j1 += j2;
-    call(code_f124(m, last, j0, j1));
+    call(code_f123(m, last, j0, j1));
     j0 = l3;
     j1 = 2416ull;
     j0 += j1;
@@ -97448,7 +97363,7 @@ static void code_f129(uint8_t *const m, const u32 last, u64 p0, u64 p1, u64 p2) 
     j2 = l3;
     j3 = 2416ull;
     j2 += j3;
-    call(i0 = code_f136(m, last, j0, i1, j2));
+    call(i0 = code_f135(m, last, j0, i1, j2));
     i1 = 255u;
     i0 &= i1;
     l32 = i0;
@@ -97761,7 +97676,7 @@ static void code_f129(uint8_t *const m, const u32 last, u64 p0, u64 p1, u64 p2) 
       i2 = 0u;
       j3 = l4;
       j4 = p1;
-      call(code_f118(m, last, j0, j1, i2, j3, j4));
+      call(code_f117(m, last, j0, j1, i2, j3, j4));
       j0 = l3;
       i0 = (u32)(j0);
       i32_load8_u_at(i0, frame, 312);
@@ -97875,7 +97790,7 @@ static void code_f129(uint8_t *const m, const u32 last, u64 p0, u64 p1, u64 p2) 
   j0 = l3;
   j1 = 2256ull;
   j0 += j1;
-  call(code_f71(m, last, j0));
+  call(code_f70(m, last, j0));
   j0 = l3;
   i0 = (u32)(j0);
   i64_load_at(j0, frame, 1568);
@@ -97915,7 +97830,7 @@ static void code_f129(uint8_t *const m, const u32 last, u64 p0, u64 p1, u64 p2) 
     j2 = 1440ull;
     j1 += j2;
     j2 = p2;
-    call(code_f131(m, last, j0, j1, j2));
+    call(code_f130(m, last, j0, j1, j2));
     j0 = l3;
     i0 = (u32)(j0);
     i32_load8_u_at(i0, frame, 280);
@@ -97974,7 +97889,7 @@ static void code_f129(uint8_t *const m, const u32 last, u64 p0, u64 p1, u64 p2) 
     i1 = (u32)(j1);
     reach(a46, i1, 0, 16);
     i64_load_at(j1, a46, 0);
-    call(code_f67(m, last, j0, j1));
+    call(code_f66(m, last, j0, j1));
     j0 = l3;
     j1 = 568ull;
     j0 += j1;
@@ -98000,7 +97915,7 @@ static void code_f129(uint8_t *const m, const u32 last, u64 p0, u64 p1, u64 p2) 
     j1 += j2;
     i1 = (u32)(j1);
     i64_load_at(j1, a46, 8);
-    call(code_f67(m, last, j0, j1));
+    call(code_f66(m, last, j0, j1));
     j0 = l3;
     j1 = 568ull;
     j0 += j1;
@@ -98024,7 +97939,7 @@ static void code_f129(uint8_t *const m, const u32 last, u64 p0, u64 p1, u64 p2) 
     j1 = p1;
     i1 = (u32)(j1);
     i64_load_at(j1, a46, 16);
-    call(code_f67(m, last, j0, j1));
+    call(code_f66(m, last, j0, j1));
     j0 = l3;
     j1 = 568ull;
     j0 += j1;
@@ -98064,7 +97979,7 @@ static void code_f129(uint8_t *const m, const u32 last, u64 p0, u64 p1, u64 p2) 
     j2 = l3;
     j3 = 2648ull;
     j2 += j3;
-    call(i0 = code_f136(m, last, j0, i1, j2));
+    call(i0 = code_f135(m, last, j0, i1, j2));
     i1 = 255u;
     i0 &= i1;
     if (i0) {goto B239;}
@@ -98119,7 +98034,7 @@ static void code_f129(uint8_t *const m, const u32 last, u64 p0, u64 p1, u64 p2) 
   j1 = 2280ull;
   j0 += j1;
   j1 = l4;
-  call(code_f67(m, last, j0, j1));
+  call(code_f66(m, last, j0, j1));
   j0 = l3;
   j1 = 2280ull;
   j0 += j1;
@@ -98166,7 +98081,7 @@ static void code_f129(uint8_t *const m, const u32 last, u64 p0, u64 p1, u64 p2) 
     i2 = 1u;
     j3 = l5;
     j4 = l4;
-    call(code_f118(m, last, j0, j1, i2, j3, j4));
+    call(code_f117(m, last, j0, j1, i2, j3, j4));
     j0 = l3;
     i0 = (u32)(j0);
     i32_load8_u_at(i0, frame, 264);
@@ -98266,7 +98181,7 @@ static void code_f129(uint8_t *const m, const u32 last, u64 p0, u64 p1, u64 p2) 
   j0 = l3;
   j1 = 2232ull;
   j0 += j1;
-  call(code_f71(m, last, j0));
+  call(code_f70(m, last, j0));
   j0 = l3;
   i0 = (u32)(j0);
   i64_load_at(j0, frame, 1568);
@@ -98322,7 +98237,7 @@ static void code_f129(uint8_t *const m, const u32 last, u64 p0, u64 p1, u64 p2) 
     i2 = 0u;
     j3 = p1;
     j4 = l6;
-    call(code_f118(m, last, j0, j1, i2, j3, j4));
+    call(code_f117(m, last, j0, j1, i2, j3, j4));
     j0 = l3;
     i0 = (u32)(j0);
     i32_load8_u_at(i0, frame, 248);
@@ -98450,7 +98365,7 @@ static void code_f129(uint8_t *const m, const u32 last, u64 p0, u64 p1, u64 p2) 
       j2 = 1440ull;
       j1 += j2;
       j2 = p2;
-      call(code_f131(m, last, j0, j1, j2));
+      call(code_f130(m, last, j0, j1, j2));
       i0 = 1u;
       l34 = i0;
       j0 = l3;
@@ -98591,7 +98506,7 @@ static void code_f129(uint8_t *const m, const u32 last, u64 p0, u64 p1, u64 p2) 
       j2 = 1440ull;
       j1 += j2;
       j2 = p2;
-      call(code_f131(m, last, j0, j1, j2));
+      call(code_f130(m, last, j0, j1, j2));
       i0 = 1u;
       l34 = i0;
       j0 = l3;
@@ -98719,7 +98634,7 @@ static void code_f129(uint8_t *const m, const u32 last, u64 p0, u64 p1, u64 p2) 
     j4 = l13;
     j5 = 1ull;
     j4 += j5;
-    call(code_f16(m, last, j0, j1, j2, j3, j4));
+    call(code_f15(m, last, j0, j1, j2, j3, j4));
     j0 = l3;
     i0 = (u32)(j0);
     i32_load8_u_at(i0, frame, 568);
@@ -98936,7 +98851,7 @@ static void code_f129(uint8_t *const m, const u32 last, u64 p0, u64 p1, u64 p2) 
     j1 = 568ull;
     j0 += j1;
     j1 = l4;
-    call(code_f67(m, last, j0, j1));
+    call(code_f66(m, last, j0, j1));
     j0 = l3;
     j1 = 568ull;
     j0 += j1;
@@ -98958,7 +98873,7 @@ static void code_f129(uint8_t *const m, const u32 last, u64 p0, u64 p1, u64 p2) 
     j1 = 568ull;
     j0 += j1;
     j1 = l5;
-    call(code_f67(m, last, j0, j1));
+    call(code_f66(m, last, j0, j1));
     j0 = l3;
     j1 = 568ull;
     j0 += j1;
@@ -99010,7 +98925,7 @@ static void code_f129(uint8_t *const m, const u32 last, u64 p0, u64 p1, u64 p2) 
     j1 = 568ull;
     j0 += j1;
     j1 = l12;
-    call(code_f67(m, last, j0, j1));
+    call(code_f66(m, last, j0, j1));
     i0 = l32;
     switch (i0) {
       case 1: goto B327;
@@ -99070,7 +98985,7 @@ static void code_f129(uint8_t *const m, const u32 last, u64 p0, u64 p1, u64 p2) 
     j1 = 568ull;
     j0 += j1;
     j1 = l14;
-    call(code_f67(m, last, j0, j1));
+    call(code_f66(m, last, j0, j1));
     j0 = l3;
     j1 = 568ull;
     j0 += j1;
@@ -99287,7 +99202,7 @@ static void code_f129(uint8_t *const m, const u32 last, u64 p0, u64 p1, u64 p2) 
     j1 = 568ull;
     j0 += j1;
     j1 = l14;
-    call(code_f67(m, last, j0, j1));
+    call(code_f66(m, last, j0, j1));
     j0 = l3;
     j1 = 568ull;
     j0 += j1;
@@ -99376,7 +99291,7 @@ static void code_f129(uint8_t *const m, const u32 last, u64 p0, u64 p1, u64 p2) 
     j1 = 568ull;
     j0 += j1;
     j1 = l14;
-    call(code_f67(m, last, j0, j1));
+    call(code_f66(m, last, j0, j1));
     j0 = l3;
     j1 = 568ull;
     j0 += j1;
@@ -99458,7 +99373,7 @@ static void code_f129(uint8_t *const m, const u32 last, u64 p0, u64 p1, u64 p2) 
     j1 = 568ull;
     j0 += j1;
     j1 = l5;
-    call(code_f67(m, last, j0, j1));
+    call(code_f66(m, last, j0, j1));
     j0 = l3;
     j1 = 568ull;
     j0 += j1;
@@ -99524,7 +99439,7 @@ static void code_f129(uint8_t *const m, const u32 last, u64 p0, u64 p1, u64 p2) 
     j1 = 568ull;
     j0 += j1;
     j1 = l5;
-    call(code_f67(m, last, j0, j1));
+    call(code_f66(m, last, j0, j1));
     j0 = l3;
     j1 = 568ull;
     j0 += j1;
@@ -99583,7 +99498,7 @@ static void code_f129(uint8_t *const m, const u32 last, u64 p0, u64 p1, u64 p2) 
       i2 = 0u;
       j3 = l4;
       j4 = p1;
-      call(code_f118(m, last, j0, j1, i2, j3, j4));
+      call(code_f117(m, last, j0, j1, i2, j3, j4));
       j0 = l3;
       i0 = (u32)(j0);
       i32_load8_u_at(i0, frame, 216);
@@ -99621,7 +99536,7 @@ static void code_f129(uint8_t *const m, const u32 last, u64 p0, u64 p1, u64 p2) 
     i3 = (u32)(j3);
     i64_load_at(j3, frame, 1600);
     j4 = 1051544ull;
-    call(i0 = code_f137(m, last, j0, j1, j2, j3, j4));
+    call(i0 = code_f136(m, last, j0, j1, j2, j3, j4));
     i1 = 255u;
     i0 &= i1;
     if (i0) {goto B350;}
@@ -99630,7 +99545,7 @@ static void code_f129(uint8_t *const m, const u32 last, u64 p0, u64 p1, u64 p2) 
     j2 = l12;
     j3 = l6;
     j4 = 1051544ull;
-    call(i0 = code_f138(m, last, j0, j1, j2, j3, j4));
+    call(i0 = code_f137(m, last, j0, j1, j2, j3, j4));
     i1 = 255u;
     i0 &= i1;
     if (i0) {goto B350;}
@@ -99643,7 +99558,7 @@ static void code_f129(uint8_t *const m, const u32 last, u64 p0, u64 p1, u64 p2) 
     i3 = (u32)(j3);
     i64_load_at(j3, frame, 1568);
     j4 = 1051251ull;
-    call(i0 = code_f137(m, last, j0, j1, j2, j3, j4));
+    call(i0 = code_f136(m, last, j0, j1, j2, j3, j4));
     i1 = 255u;
     i0 &= i1;
     i0 = !(i0);
@@ -99672,7 +99587,7 @@ static void code_f129(uint8_t *const m, const u32 last, u64 p0, u64 p1, u64 p2) 
     j2 = l12;
     j3 = l6;
     j4 = 1051251ull;
-    call(i0 = code_f138(m, last, j0, j1, j2, j3, j4));
+    call(i0 = code_f137(m, last, j0, j1, j2, j3, j4));
     i1 = 255u;
     i0 &= i1;
     i0 = !(i0);
@@ -99744,7 +99659,7 @@ static void code_f129(uint8_t *const m, const u32 last, u64 p0, u64 p1, u64 p2) 
     j2 = 1440ull;
     j1 += j2;
     j2 = p2;
-    call(code_f131(m, last, j0, j1, j2));
+    call(code_f130(m, last, j0, j1, j2));
     j0 = l3;
     i0 = (u32)(j0);
     i32_load8_u_at(i0, frame, 184);
@@ -99784,7 +99699,7 @@ static void code_f129(uint8_t *const m, const u32 last, u64 p0, u64 p1, u64 p2) 
   i1 = (u32)(j1);
   i64_load_at(j1, frame, 2008);
   l5 = j1;
-  call(code_f67(m, last, j0, j1));
+  call(code_f66(m, last, j0, j1));
   j0 = l3;
   j1 = 568ull;
   j0 += j1;
@@ -99809,7 +99724,7 @@ static void code_f129(uint8_t *const m, const u32 last, u64 p0, u64 p1, u64 p2) 
   i1 = (u32)(j1);
   i64_load_at(j1, frame, 2016);
   l12 = j1;
-  call(code_f67(m, last, j0, j1));
+  call(code_f66(m, last, j0, j1));
   j0 = l3;
   j1 = 568ull;
   j0 += j1;
@@ -99834,7 +99749,7 @@ static void code_f129(uint8_t *const m, const u32 last, u64 p0, u64 p1, u64 p2) 
   i1 = (u32)(j1);
   i64_load_at(j1, frame, 2024);
   p1 = j1;
-  call(code_f67(m, last, j0, j1));
+  call(code_f66(m, last, j0, j1));
   j0 = l3;
   j1 = 568ull;
   j0 += j1;
@@ -99883,7 +99798,7 @@ static void code_f129(uint8_t *const m, const u32 last, u64 p0, u64 p1, u64 p2) 
     i2 = 0u;
     j3 = p1;
     j4 = l4;
-    call(code_f118(m, last, j0, j1, i2, j3, j4));
+    call(code_f117(m, last, j0, j1, i2, j3, j4));
     j0 = l3;
     i0 = (u32)(j0);
     i32_load8_u_at(i0, frame, 168);
@@ -100194,7 +100109,7 @@ static void code_f129(uint8_t *const m, const u32 last, u64 p0, u64 p1, u64 p2) 
     i2 = 1u;
     j3 = l4;
     j4 = p1;
-    call(code_f118(m, last, j0, j1, i2, j3, j4));
+    call(code_f117(m, last, j0, j1, i2, j3, j4));
     j0 = l3;
     i0 = (u32)(j0);
     i32_load8_u_at(i0, frame, 152);
@@ -100277,7 +100192,7 @@ static void code_f129(uint8_t *const m, const u32 last, u64 p0, u64 p1, u64 p2) 
       j2 = 1440ull;
       j1 += j2;
       j2 = p2;
-      call(code_f131(m, last, j0, j1, j2));
+      call(code_f130(m, last, j0, j1, j2));
       i0 = 1u;
       l34 = i0;
       j0 = l3;
@@ -100418,7 +100333,7 @@ static void code_f129(uint8_t *const m, const u32 last, u64 p0, u64 p1, u64 p2) 
       j2 = 1440ull;
       j1 += j2;
       j2 = p2;
-      call(code_f131(m, last, j0, j1, j2));
+      call(code_f130(m, last, j0, j1, j2));
       i0 = 1u;
       l34 = i0;
       j0 = l3;
@@ -100550,7 +100465,7 @@ static void code_f129(uint8_t *const m, const u32 last, u64 p0, u64 p1, u64 p2) 
     j4 = l12;
     j5 = 1ull;
     j4 += j5;
-    call(code_f16(m, last, j0, j1, j2, j3, j4));
+    call(code_f15(m, last, j0, j1, j2, j3, j4));
     j0 = l3;
     i0 = (u32)(j0);
     i32_load8_u_at(i0, frame, 568);
@@ -100787,7 +100702,7 @@ static void code_f129(uint8_t *const m, const u32 last, u64 p0, u64 p1, u64 p2) 
     j3 = 568ull;
     j2 += j3;
     j3 = l13;
-    call(i0 = code_f139(m, last, j0, j1, j2, j3));
+    call(i0 = code_f138(m, last, j0, j1, j2, j3));
     i1 = 255u;
     i0 &= i1;
     i0 = !(i0);
@@ -100854,7 +100769,7 @@ static void code_f129(uint8_t *const m, const u32 last, u64 p0, u64 p1, u64 p2) 
     j2 = 1440ull;
     j1 += j2;
     j2 = p2;
-    call(code_f131(m, last, j0, j1, j2));
+    call(code_f130(m, last, j0, j1, j2));
     j0 = l3;
     i0 = (u32)(j0);
     i32_load8_u_at(i0, frame, 104);
@@ -100875,7 +100790,7 @@ static void code_f129(uint8_t *const m, const u32 last, u64 p0, u64 p1, u64 p2) 
   j1 = l3;
   j2 = 2008ull;
   j1 += j2;
-  call(i0 = code_f135(m, last, j0, j1));
+  call(i0 = code_f134(m, last, j0, j1));
   i1 = 255u;
   i0 &= i1;
   if (i0) {goto B380;}
@@ -101150,7 +101065,7 @@ static void code_f129(uint8_t *const m, const u32 last, u64 p0, u64 p1, u64 p2) 
     j2 = 1440ull;
     j1 += j2;
     j2 = p2;
-    call(code_f131(m, last, j0, j1, j2));
+    call(code_f130(m, last, j0, j1, j2));
     j0 = l3;
     i0 = (u32)(j0);
     i32_load8_u_at(i0, frame, 56);
@@ -101183,7 +101098,7 @@ static void code_f129(uint8_t *const m, const u32 last, u64 p0, u64 p1, u64 p2) 
     i2 = 1u;
     j3 = l4;
     j4 = p1;
-    call(code_f118(m, last, j0, j1, i2, j3, j4));
+    call(code_f117(m, last, j0, j1, i2, j3, j4));
     j0 = l3;
     i0 = (u32)(j0);
     i32_load8_u_at(i0, frame, 40);
@@ -101206,7 +101121,7 @@ static void code_f129(uint8_t *const m, const u32 last, u64 p0, u64 p1, u64 p2) 
   j1 = 568ull;
   j0 += j1;
   j1 = l12;
-  call(code_f123(m, last, j0, j1));
+  call(code_f122(m, last, j0, j1));
   j0 = l3;
   i0 = (u32)(j0);
   i64_load_at(j0, frame, 696);
@@ -101225,7 +101140,7 @@ static void code_f129(uint8_t *const m, const u32 last, u64 p0, u64 p1, u64 p2) 
     i2 = 1u;
     j3 = l4;
     j4 = p1;
-    call(code_f118(m, last, j0, j1, i2, j3, j4));
+    call(code_f117(m, last, j0, j1, i2, j3, j4));
     j0 = l3;
     i0 = (u32)(j0);
     i32_load8_u_at(i0, frame, 24);
@@ -101436,7 +101351,7 @@ static void code_f129(uint8_t *const m, const u32 last, u64 p0, u64 p1, u64 p2) 
   return;
 }
 
-static void code_f130(uint8_t *const m, const u32 last, u64 p0, u64 p1, u64 p2, u64 p3, u64 p4) {
+static void code_f129(uint8_t *const m, const u32 last, u64 p0, u64 p1, u64 p2, u64 p3, u64 p4) {
   u32 l9 = 0, l10 = 0;
   u64 l5 = 0, l6 = 0, l7 = 0, l8 = 0;
   u32 i0, i1, i2;
@@ -101483,7 +101398,7 @@ static void code_f130(uint8_t *const m, const u32 last, u64 p0, u64 p1, u64 p2, 
     j0 = l5;
     j1 = p1;
     j2 = p2;
-    call(code_f131(m, last, j0, j1, j2));
+    call(code_f130(m, last, j0, j1, j2));
     j0 = l5;
     i0 = (u32)(j0);
     i32_load8_u_at(i0, frame, 0);
@@ -101579,7 +101494,7 @@ static void code_f130(uint8_t *const m, const u32 last, u64 p0, u64 p1, u64 p2, 
   j2 = l8;
   j1 += j2;
   j2 = l6;
-  call(i0 = code_f7(m, last, j0, j1, j2));
+  call(i0 = code_f6(m, last, j0, j1, j2));
   i1 = 255u;
   i0 &= i1;
   i0 = !(i0);
@@ -101630,7 +101545,7 @@ static void code_f130(uint8_t *const m, const u32 last, u64 p0, u64 p1, u64 p2, 
   return;
 }
 
-static void code_f131(uint8_t *const m, const u32 last, u64 p0, u64 p1, u64 p2) {
+static void code_f130(uint8_t *const m, const u32 last, u64 p0, u64 p1, u64 p2) {
   u32 l15 = 0;
   u64 l3 = 0, l4 = 0, l5 = 0, l6 = 0, l7 = 0, l8 = 0, l9 = 0, l10 = 0, l11 = 0, l12 = 0, l13 = 0, l14 = 0;
   u32 i0, i1, i2, i4;
@@ -101822,7 +101737,7 @@ static void code_f131(uint8_t *const m, const u32 last, u64 p0, u64 p1, u64 p2) 
   i64_load_at(j4, a0, 8);
   j5 = l12;
   j4 -= j5;
-  call(code_f59(m, last, j0, j1, i2, j3, j4));
+  call(code_f58(m, last, j0, j1, i2, j3, j4));
   j0 = l3;
   i0 = (u32)(j0);
   i32_load8_u_at(i0, frame, 0);
@@ -101862,7 +101777,7 @@ static void code_f131(uint8_t *const m, const u32 last, u64 p0, u64 p1, u64 p2) 
   return;
 }
 
-static u32 code_f132(uint8_t *const m, const u32 last, u64 p0, u64 p1) {
+static u32 code_f131(uint8_t *const m, const u32 last, u64 p0, u64 p1) {
   u32 l5 = 0;
   u64 l2 = 0, l3 = 0, l4 = 0;
   u32 i0, i1, i2;
@@ -101914,7 +101829,7 @@ static u32 code_f132(uint8_t *const m, const u32 last, u64 p0, u64 p1) {
   j1 = 296ull;
   j0 += j1;
   j1 = p1;
-  call(code_f67(m, last, j0, j1));
+  call(code_f66(m, last, j0, j1));
   j0 = l2;
   j1 = 296ull;
   j0 += j1;
@@ -101936,7 +101851,7 @@ static u32 code_f132(uint8_t *const m, const u32 last, u64 p0, u64 p1) {
   j1 = 296ull;
   j0 += j1;
   j1 = l4;
-  call(code_f67(m, last, j0, j1));
+  call(code_f66(m, last, j0, j1));
   j0 = l2;
   j1 = 296ull;
   j0 += j1;
@@ -102016,7 +101931,7 @@ static u32 code_f132(uint8_t *const m, const u32 last, u64 p0, u64 p1) {
     i2 = 0u;
     j3 = l3;
     j4 = p1;
-    call(code_f118(m, last, j0, j1, i2, j3, j4));
+    call(code_f117(m, last, j0, j1, i2, j3, j4));
     j0 = l2;
     i0 = (u32)(j0);
     i32_load8_u_at(i0, frame, 8);
@@ -102052,7 +101967,7 @@ static u32 code_f132(uint8_t *const m, const u32 last, u64 p0, u64 p1) {
   return 0;
 }
 
-static void code_f133(uint8_t *const m, const u32 last, u64 p0, u64 p1) {
+static void code_f132(uint8_t *const m, const u32 last, u64 p0, u64 p1) {
   u32 l7 = 0, l8 = 0;
   u64 l2 = 0, l3 = 0, l4 = 0, l5 = 0, l6 = 0;
   u32 i0, i1, i2, i3;
@@ -102239,7 +102154,7 @@ static void code_f133(uint8_t *const m, const u32 last, u64 p0, u64 p1) {
   return;
 }
 
-static u32 code_f134(uint8_t *const m, const u32 last, u64 p0, u64 p1) {
+static u32 code_f133(uint8_t *const m, const u32 last, u64 p0, u64 p1) {
   u32 l14 = 0, l15 = 0, l16 = 0, l17 = 0, l18 = 0, l19 = 0, l20 = 0, l21 = 0;
   u64 l2 = 0, l3 = 0, l4 = 0, l5 = 0, l6 = 0, l7 = 0, l8 = 0, l9 = 0, l10 = 0, l11 = 0, l12 = 0, l13 = 0;
   u32 i0, i1, i2;
@@ -102619,7 +102534,7 @@ static u32 code_f134(uint8_t *const m, const u32 last, u64 p0, u64 p1) {
   j2 = l3;
   j3 = l7;
   j4 = l5;
-  call(code_f16(m, last, j0, j1, j2, j3, j4));
+  call(code_f15(m, last, j0, j1, j2, j3, j4));
   j0 = l2;
   i0 = (u32)(j0);
   i32_load8_u_at(i0, frame, 0);
@@ -102881,7 +102796,7 @@ static u32 code_f134(uint8_t *const m, const u32 last, u64 p0, u64 p1) {
   j3 = p0;
   j4 = 104ull;
   j3 += j4;
-  call(i0 = code_f139(m, last, j0, j1, j2, j3));
+  call(i0 = code_f138(m, last, j0, j1, j2, j3));
   l16 = i0;
   j0 = l2;
   j1 = 48ull;
@@ -102896,7 +102811,7 @@ static u32 code_f134(uint8_t *const m, const u32 last, u64 p0, u64 p1) {
   return 0;
 }
 
-static u32 code_f135(uint8_t *const m, const u32 last, u64 p0, u64 p1) {
+static u32 code_f134(uint8_t *const m, const u32 last, u64 p0, u64 p1) {
   u32 l5 = 0;
   u64 l2 = 0, l3 = 0, l4 = 0;
   u32 i0, i1, i2;
@@ -102928,7 +102843,7 @@ static u32 code_f135(uint8_t *const m, const u32 last, u64 p0, u64 p1) {
   i1 = (u32)(j1);
   reach(a1, i1, 0, 16);
   i64_load_at(j1, a1, 0);
-  call(code_f67(m, last, j0, j1));
+  call(code_f66(m, last, j0, j1));
   j0 = l2;
   j1 = 152ull;
   j0 += j1;
@@ -102954,7 +102869,7 @@ static u32 code_f135(uint8_t *const m, const u32 last, u64 p0, u64 p1) {
   j1 += j2;
   i1 = (u32)(j1);
   i64_load_at(j1, a1, 8);
-  call(code_f67(m, last, j0, j1));
+  call(code_f66(m, last, j0, j1));
   j0 = l2;
   j1 = 152ull;
   j0 += j1;
@@ -102980,7 +102895,7 @@ static u32 code_f135(uint8_t *const m, const u32 last, u64 p0, u64 p1) {
   j1 += j2;
   i1 = (u32)(j1);
   i64_load_at(j1, a1, 16);
-  call(code_f67(m, last, j0, j1));
+  call(code_f66(m, last, j0, j1));
   j0 = l2;
   j1 = 152ull;
   j0 += j1;
@@ -103027,7 +102942,7 @@ static u32 code_f135(uint8_t *const m, const u32 last, u64 p0, u64 p1) {
     i2 = 1u;
     j3 = l3;
     j4 = p1;
-    call(code_f118(m, last, j0, j1, i2, j3, j4));
+    call(code_f117(m, last, j0, j1, i2, j3, j4));
     j0 = l2;
     i0 = (u32)(j0);
     i32_load8_u_at(i0, frame, 0);
@@ -103061,7 +102976,7 @@ static u32 code_f135(uint8_t *const m, const u32 last, u64 p0, u64 p1) {
   return 0;
 }
 
-static u32 code_f136(uint8_t *const m, const u32 last, u64 p0, u32 p1, u64 p2) {
+static u32 code_f135(uint8_t *const m, const u32 last, u64 p0, u32 p1, u64 p2) {
   u64 l3 = 0, l4 = 0, l5 = 0, l6 = 0, l7 = 0;
   u32 i0, i1, i2;
   u64 j0, j1, j2, j3, j4;
@@ -103092,7 +103007,7 @@ static u32 code_f136(uint8_t *const m, const u32 last, u64 p0, u32 p1, u64 p2) {
   j1 = (u64)(i1);
   j2 = 65535ull;
   j1 &= j2;
-  call(code_f67(m, last, j0, j1));
+  call(code_f66(m, last, j0, j1));
   j0 = l3;
   j1 = 312ull;
   j0 += j1;
@@ -103152,7 +103067,7 @@ static u32 code_f136(uint8_t *const m, const u32 last, u64 p0, u32 p1, u64 p2) {
     i2 = 1u;
     j3 = l6;
     j4 = l5;
-    call(code_f118(m, last, j0, j1, i2, j3, j4));
+    call(code_f117(m, last, j0, j1, i2, j3, j4));
     j0 = l3;
     i0 = (u32)(j0);
     i32_load8_u_at(i0, frame, 24);
@@ -103182,7 +103097,7 @@ static u32 code_f136(uint8_t *const m, const u32 last, u64 p0, u32 p1, u64 p2) {
     i2 = 1u;
     j3 = p2;
     j4 = l4;
-    call(code_f118(m, last, j0, j1, i2, j3, j4));
+    call(code_f117(m, last, j0, j1, i2, j3, j4));
     j0 = l3;
     i0 = (u32)(j0);
     i32_load8_u_at(i0, frame, 8);
@@ -103216,7 +103131,7 @@ static u32 code_f136(uint8_t *const m, const u32 last, u64 p0, u32 p1, u64 p2) {
   return 0;
 }
 
-static u32 code_f137(uint8_t *const m, const u32 last, u64 p0, u64 p1, u64 p2, u64 p3, u64 p4) {
+static u32 code_f136(uint8_t *const m, const u32 last, u64 p0, u64 p1, u64 p2, u64 p3, u64 p4) {
   u32 l15 = 0;
   u64 l5 = 0, l6 = 0, l7 = 0, l8 = 0, l9 = 0, l10 = 0, l11 = 0, l12 = 0, l13 = 0, l14 = 0;
   u32 i0, i1, i2, i3;
@@ -103532,7 +103447,7 @@ static u32 code_f137(uint8_t *const m, const u32 last, u64 p0, u64 p1, u64 p2, u
     i2 = 0u;
     j3 = l12;
     j4 = l13;
-    call(code_f118(m, last, j0, j1, i2, j3, j4));
+    call(code_f117(m, last, j0, j1, i2, j3, j4));
     j0 = l5;
     i0 = (u32)(j0);
     i32_load8_u_at(i0, frame, 16);
@@ -103567,7 +103482,7 @@ static u32 code_f137(uint8_t *const m, const u32 last, u64 p0, u64 p1, u64 p2, u
     i2 = 0u;
     j3 = p4;
     j4 = l12;
-    call(code_f118(m, last, j0, j1, i2, j3, j4));
+    call(code_f117(m, last, j0, j1, i2, j3, j4));
     j0 = l5;
     i0 = (u32)(j0);
     i32_load8_u_at(i0, frame, 0);
@@ -103603,7 +103518,7 @@ static u32 code_f137(uint8_t *const m, const u32 last, u64 p0, u64 p1, u64 p2, u
   return 0;
 }
 
-static u32 code_f138(uint8_t *const m, const u32 last, u64 p0, u64 p1, u64 p2, u64 p3, u64 p4) {
+static u32 code_f137(uint8_t *const m, const u32 last, u64 p0, u64 p1, u64 p2, u64 p3, u64 p4) {
   u32 l6 = 0;
   u64 l5 = 0;
   u32 i0, i1, i2, i3;
@@ -103639,7 +103554,7 @@ static u32 code_f138(uint8_t *const m, const u32 last, u64 p0, u64 p1, u64 p2, u
     i2 = 0u;
     j3 = p2;
     j4 = p3;
-    call(code_f118(m, last, j0, j1, i2, j3, j4));
+    call(code_f117(m, last, j0, j1, i2, j3, j4));
     j0 = l5;
     i0 = (u32)(j0);
     i32_load8_u_at(i0, frame, 16);
@@ -103673,7 +103588,7 @@ static u32 code_f138(uint8_t *const m, const u32 last, u64 p0, u64 p1, u64 p2, u
     i2 = 0u;
     j3 = p4;
     j4 = p3;
-    call(code_f118(m, last, j0, j1, i2, j3, j4));
+    call(code_f117(m, last, j0, j1, i2, j3, j4));
     j0 = l5;
     i0 = (u32)(j0);
     i32_load8_u_at(i0, frame, 0);
@@ -103714,7 +103629,7 @@ static u32 code_f138(uint8_t *const m, const u32 last, u64 p0, u64 p1, u64 p2, u
   i3 = (u32)(j3);
   i64_load_at(j3, a1, 8);
   j4 = p4;
-  call(i0 = code_f137(m, last, j0, j1, j2, j3, j4));
+  call(i0 = code_f136(m, last, j0, j1, j2, j3, j4));
   i1 = 255u;
   i0 &= i1;
   l6 = i0;
@@ -103730,7 +103645,7 @@ static u32 code_f138(uint8_t *const m, const u32 last, u64 p0, u64 p1, u64 p2, u
   return 0;
 }
 
-static u32 code_f139(uint8_t *const m, const u32 last, u64 p0, u64 p1, u64 p2, u64 p3) {
+static u32 code_f138(uint8_t *const m, const u32 last, u64 p0, u64 p1, u64 p2, u64 p3) {
   u32 l13 = 0;
   u64 l4 = 0, l5 = 0, l6 = 0, l7 = 0, l8 = 0, l9 = 0, l10 = 0, l11 = 0, l12 = 0;
   u32 i0, i1, i2;
@@ -103767,7 +103682,7 @@ static u32 code_f139(uint8_t *const m, const u32 last, u64 p0, u64 p1, u64 p2, u
   j1 = 168ull;
   j0 += j1;
   j1 = p2;
-  call(code_f124(m, last, j0, j1));
+  call(code_f123(m, last, j0, j1));
   j0 = l4;
   j1 = 32ull;
   j0 += j1;
@@ -103797,7 +103712,7 @@ static u32 code_f139(uint8_t *const m, const u32 last, u64 p0, u64 p1, u64 p2, u
     i2 = 1u;
     j3 = l6;
     j4 = l5;
-    call(code_f118(m, last, j0, j1, i2, j3, j4));
+    call(code_f117(m, last, j0, j1, i2, j3, j4));
     j0 = l4;
     i0 = (u32)(j0);
     i32_load8_u_at(i0, frame, 16);
@@ -104079,7 +103994,7 @@ static u32 code_f139(uint8_t *const m, const u32 last, u64 p0, u64 p1, u64 p2, u
     i2 = 0u;
     j3 = l7;
     j4 = p3;
-    call(code_f118(m, last, j0, j1, i2, j3, j4));
+    call(code_f117(m, last, j0, j1, i2, j3, j4));
     j0 = l4;
     i0 = (u32)(j0);
     i32_load8_u_at(i0, frame, 0);
@@ -104115,7 +104030,7 @@ static u32 code_f139(uint8_t *const m, const u32 last, u64 p0, u64 p1, u64 p2, u
   return 0;
 }
 
-static void code_f140(uint8_t *const m, const u32 last, u64 p0) {
+static void code_f139(uint8_t *const m, const u32 last, u64 p0) {
   u64 l1 = 0, l2 = 0, l3 = 0, l4 = 0, l5 = 0, l6 = 0, l7 = 0, l8 = 0, l9 = 0, l10 = 0, l11 = 0, l12 = 0, l13 = 0, l14 = 0, l15 = 0, l16 = 0, l17 = 0, l18 = 0, l19 = 0, l20 = 0, l21 = 0, l22 = 0, l23 = 0, l24 = 0, l25 = 0, l26 = 0, l27 = 0, l28 = 0, l29 = 0, l30 = 0, l31 = 0, l32 = 0, l33 = 0, l34 = 0, l35 = 0, l36 = 0, l37 = 0, l38 = 0, l39 = 0, l40 = 0, l41 = 0, l42 = 0, l43 = 0, l44 = 0, l45 = 0, l46 = 0, l47 = 0, l48 = 0, l49 = 0, l50 = 0, l51 = 0, l52 = 0, l53 = 0, l54 = 0;
   u32 i0, i1, i2, i4;
   u64 j0, j1, j2, j3, j4, j5;
@@ -104557,7 +104472,7 @@ static void code_f140(uint8_t *const m, const u32 last, u64 p0) {
   j0 = l1;
   j1 = 320ull;
   j0 += j1;
-  call(code_f141(m, last, j0));
+  call(code_f140(m, last, j0));
   j0 = l7;
   i0 = !(j0);
   if (i0) {goto B25;}
@@ -104890,7 +104805,7 @@ static void code_f140(uint8_t *const m, const u32 last, u64 p0) {
   j0 = l1;
   j1 = 320ull;
   j0 += j1;
-  call(code_f142(m, last, j0));
+  call(code_f141(m, last, j0));
   j0 = l11;
   i0 = !(j0);
   if (i0) {goto B0;}
@@ -105175,7 +105090,7 @@ static void code_f140(uint8_t *const m, const u32 last, u64 p0) {
   j0 = l1;
   j1 = 320ull;
   j0 += j1;
-  call(code_f142(m, last, j0));
+  call(code_f141(m, last, j0));
   j0 = l11;
   i0 = !(j0);
   if (i0) {goto B33;}
@@ -105298,7 +105213,7 @@ static void code_f140(uint8_t *const m, const u32 last, u64 p0) {
     j0 = l1;
     j1 = 320ull;
     j0 += j1;
-    call(code_f142(m, last, j0));
+    call(code_f141(m, last, j0));
     j0 = l40;
     j1 = 18446744073709551615ull;
     j0 += j1;
@@ -105647,7 +105562,7 @@ static void code_f140(uint8_t *const m, const u32 last, u64 p0) {
   j0 = l1;
   j1 = 320ull;
   j0 += j1;
-  call(code_f142(m, last, j0));
+  call(code_f141(m, last, j0));
   j0 = l45;
   i0 = !(j0);
   if (i0) {goto B0;}
@@ -105850,7 +105765,7 @@ static void code_f140(uint8_t *const m, const u32 last, u64 p0) {
   j0 = l1;
   j1 = 320ull;
   j0 += j1;
-  call(code_f141(m, last, j0));
+  call(code_f140(m, last, j0));
   j0 = l22;
   i0 = !(j0);
   if (i0) {goto B51;}
@@ -105884,7 +105799,7 @@ static void code_f140(uint8_t *const m, const u32 last, u64 p0) {
   return;
 }
 
-static void code_f141(uint8_t *const m, const u32 last, u64 p0) {
+static void code_f140(uint8_t *const m, const u32 last, u64 p0) {
   u32 l19 = 0;
   u64 l1 = 0, l2 = 0, l3 = 0, l4 = 0, l5 = 0, l6 = 0, l7 = 0, l8 = 0, l9 = 0, l10 = 0, l11 = 0, l12 = 0, l13 = 0, l14 = 0, l15 = 0, l16 = 0, l17 = 0, l18 = 0;
   u32 i0, i1;
@@ -106042,7 +105957,7 @@ static void code_f141(uint8_t *const m, const u32 last, u64 p0) {
   return;
 }
 
-static void code_f142(uint8_t *const m, const u32 last, u64 p0) {
+static void code_f141(uint8_t *const m, const u32 last, u64 p0) {
   u64 l1 = 0, l2 = 0, l3 = 0, l4 = 0, l5 = 0, l6 = 0, l7 = 0, l8 = 0, l9 = 0, l10 = 0, l11 = 0, l12 = 0, l13 = 0, l14 = 0, l15 = 0, l16 = 0, l17 = 0, l18 = 0, l19 = 0, l20 = 0, l21 = 0, l22 = 0;
   u32 i0;
   u64 j0, j1;
@@ -106268,12 +106183,12 @@ static void code_f142(uint8_t *const m, const u32 last, u64 p0) {
 }
 
 static u32 code_pocket_desk_open(uint8_t *const m, const u32 last, u64 p0) {
-  u32 l4 = 0;
-  u64 l1 = 0, l2 = 0, l3 = 0;
+  u32 l5 = 0;
+  u64 l1 = 0, l2 = 0, l3 = 0, l4 = 0;
   u32 i0, i1, i2;
   u64 j0, j1, j2;
   uint8_t *a0, *frame, *a2, *a3;
-  enter(l1, 32);
+  enter(l1, 592);
   frame = place(l1);
   j0 = l1;
   j0 = p0;
@@ -106297,31 +106212,34 @@ static u32 code_pocket_desk_open(uint8_t *const m, const u32 last, u64 p0) {
   i0 = !(j0);
   if (i0) {goto B1;}
   j0 = p0;
+  i0 = (u32)(j0);
+  j1 = 1ull;
+  i64_store_at(j1, a0, 8);
+  j0 = p0;
+  i0 = (u32)(j0);
   j1 = l2;
-  call(code_f4(m, last, j0, j1));
+  i64_store_at(j1, a0, 0);
   i0 = 3u;
-  l4 = i0;
+  l5 = i0;
   goto B0;
   B1:;
   j0 = l1;
-  j1 = 8ull;
-  j0 += j1;
   j1 = 568ull;
   j2 = 8ull;
   call(heap_alloc(m, last, j0, j1, j2));
   i0 = 1u;
-  l4 = i0;
+  l5 = i0;
   j0 = l1;
   i0 = (u32)(j0);
-  i64_load_at(j0, frame, 8);
+  i64_load_at(j0, frame, 0);
   i0 = (u32)(j0);
   i1 = 1u;
   i0 &= i1;
   i0 = !(i0);
-  if (i0) {goto B0;}
+  if (i0) {goto B2;}
   j0 = l1;
   i0 = (u32)(j0);
-  i64_load_at(j0, frame, 16);
+  i64_load_at(j0, frame, 8);
   l3 = j0;
   i0 = (u32)(j0);
   j1 = 0ull;
@@ -106382,25 +106300,25 @@ static u32 code_pocket_desk_open(uint8_t *const m, const u32 last, u64 p0) {
   j0 = l3;
   i0 = (u32)(j0);
   j1 = l1;
-  j2 = 24ull;
+  j2 = 584ull;
   j1 += j2;
   i64_store_at(j1, a2, 8);
   j0 = l3;
   i0 = (u32)(j0);
   j1 = l1;
-  j2 = 24ull;
+  j2 = 584ull;
   j1 += j2;
   i64_store_at(j1, a2, 80);
   j0 = l3;
   i0 = (u32)(j0);
   j1 = l1;
-  j2 = 24ull;
+  j2 = 584ull;
   j1 += j2;
   i64_store_at(j1, a2, 104);
   j0 = l3;
   i0 = (u32)(j0);
   j1 = l1;
-  j2 = 24ull;
+  j2 = 584ull;
   j1 += j2;
   i64_store_at(j1, a2, 136);
   j0 = l3;
@@ -106414,15 +106332,7 @@ static u32 code_pocket_desk_open(uint8_t *const m, const u32 last, u64 p0) {
   j0 = l3;
   i0 = (u32)(j0);
   j1 = 0ull;
-  i64_store_at(j1, a2, 200);
-  j0 = l3;
-  i0 = (u32)(j0);
-  j1 = 0ull;
-  i64_store_at(j1, a2, 192);
-  j0 = l3;
-  i0 = (u32)(j0);
-  j1 = 0ull;
-  i64_store_at(j1, a2, 184);
+  i64_store_at(j1, a2, 168);
   j0 = l3;
   i0 = (u32)(j0);
   j1 = 0ull;
@@ -106430,15 +106340,15 @@ static u32 code_pocket_desk_open(uint8_t *const m, const u32 last, u64 p0) {
   j0 = l3;
   i0 = (u32)(j0);
   j1 = 0ull;
-  i64_store_at(j1, a2, 168);
+  i64_store_at(j1, a2, 184);
   j0 = l3;
   i0 = (u32)(j0);
   j1 = 0ull;
-  i64_store_at(j1, a2, 232);
+  i64_store_at(j1, a2, 192);
   j0 = l3;
   i0 = (u32)(j0);
   j1 = 0ull;
-  i64_store_at(j1, a2, 224);
+  i64_store_at(j1, a2, 200);
   j0 = l3;
   i0 = (u32)(j0);
   j1 = 0ull;
@@ -106446,16 +106356,24 @@ static u32 code_pocket_desk_open(uint8_t *const m, const u32 last, u64 p0) {
   j0 = l3;
   i0 = (u32)(j0);
   j1 = 0ull;
-  reach(a3, i0, 256, 128);
-  i64_store_at(j1, a3, 8);
+  i64_store_at(j1, a2, 224);
   j0 = l3;
   i0 = (u32)(j0);
   j1 = 0ull;
-  i64_store_at(j1, a3, 0);
+  i64_store_at(j1, a2, 232);
   j0 = l3;
   i0 = (u32)(j0);
   j1 = 0ull;
   i64_store_at(j1, a2, 248);
+  j0 = l3;
+  i0 = (u32)(j0);
+  j1 = 0ull;
+  reach(a3, i0, 256, 128);
+  i64_store_at(j1, a3, 0);
+  j0 = l3;
+  i0 = (u32)(j0);
+  j1 = 0ull;
+  i64_store_at(j1, a3, 8);
   j0 = l3;
   i0 = (u32)(j0);
   j1 = 0ull;
@@ -106471,33 +106389,27 @@ static u32 code_pocket_desk_open(uint8_t *const m, const u32 last, u64 p0) {
   j0 = l3;
   i0 = (u32)(j0);
   j1 = l1;
-  j2 = 24ull;
+  j2 = 584ull;
   j1 += j2;
   i64_store_at(j1, a2, 160);
   j0 = l3;
   i0 = (u32)(j0);
   j1 = l1;
-  j2 = 24ull;
+  j2 = 584ull;
   j1 += j2;
   i64_store_at(j1, a2, 208);
   j0 = l3;
   i0 = (u32)(j0);
   j1 = l1;
-  j2 = 24ull;
+  j2 = 584ull;
   j1 += j2;
   i64_store_at(j1, a2, 240);
   j0 = l3;
   i0 = (u32)(j0);
   j1 = l1;
-  j2 = 24ull;
+  j2 = 584ull;
   j1 += j2;
   i64_store_at(j1, a3, 16);
-  j0 = l3;
-  i0 = (u32)(j0);
-  j1 = l1;
-  j2 = 24ull;
-  j1 += j2;
-  i64_store_at(j1, a3, 48);
   j0 = l3;
   i0 = (u32)(j0);
   j1 = 0ull;
@@ -106510,12 +106422,6 @@ static u32 code_pocket_desk_open(uint8_t *const m, const u32 last, u64 p0) {
   i0 = (u32)(j0);
   j1 = 0ull;
   i64_store_at(j1, a3, 56);
-  j0 = l3;
-  i0 = (u32)(j0);
-  j1 = l1;
-  j2 = 24ull;
-  j1 += j2;
-  i64_store_at(j1, a3, 80);
   j0 = l3;
   i0 = (u32)(j0);
   j1 = 0ull;
@@ -106539,11 +106445,23 @@ static u32 code_pocket_desk_open(uint8_t *const m, const u32 last, u64 p0) {
   j0 = l3;
   i0 = (u32)(j0);
   j1 = l1;
-  j2 = 24ull;
+  j2 = 584ull;
+  j1 += j2;
+  i64_store_at(j1, a3, 48);
+  j0 = l3;
+  i0 = (u32)(j0);
+  j1 = l1;
+  j2 = 584ull;
+  j1 += j2;
+  i64_store_at(j1, a3, 80);
+  j0 = l3;
+  i0 = (u32)(j0);
+  j1 = l1;
+  j2 = 584ull;
   j1 += j2;
   i64_store_at(j1, a3, 128);
   i0 = 0u;
-  l4 = i0;
+  l5 = i0;
   j0 = l3;
   j1 = 392ull;
   j0 += j1;
@@ -106553,14 +106471,277 @@ static u32 code_pocket_desk_open(uint8_t *const m, const u32 last, u64 p0) {
   i2 = (u32)(j2);
   memory_fill(i0, i1, i2);
   j0 = p0;
+  i0 = (u32)(j0);
+  i64_load_at(j0, a0, 8);
+  l4 = j0;
+  j0 = p0;
+  i0 = (u32)(j0);
+  j1 = 1ull;
+  i64_store_at(j1, a0, 8);
+  j0 = p0;
+  i0 = (u32)(j0);
+  i64_load_at(j0, a0, 0);
+  l2 = j0;
+  j0 = p0;
+  i0 = (u32)(j0);
   j1 = l3;
-  call(code_f4(m, last, j0, j1));
+  i64_store_at(j1, a0, 0);
+  j0 = l4;
+  i0 = !(j0);
+  if (i0) {goto B0;}
+  j0 = l1;
+  j1 = 16ull;
+  j0 += j1;
+  i0 = (u32)(j0);
+  j1 = l2;
+  i1 = (u32)(j1);
+  j2 = 568ull;
+  i2 = (u32)(j2);
+  memory_copy(i0, i1, i2);
+  j0 = l2;
+  call(heap_dealloc(m, last, j0));
+  j0 = l1;
+  j1 = 16ull;
+  j0 += j1;
+  call(code_f4(m, last, j0));
+  goto B0;
+  B2:;
+  j0 = l1;
+  i0 = (u32)(j0);
+  j1 = 0ull;
+  i64_store_at(j1, frame, 32);
+  j0 = l1;
+  i0 = (u32)(j0);
+  j1 = 2ull;
+  i64_store_at(j1, frame, 16);
+  j0 = l1;
+  i0 = (u32)(j0);
+  j1 = 0ull;
+  i64_store_at(j1, frame, 40);
+  j0 = l1;
+  i0 = (u32)(j0);
+  j1 = 0ull;
+  i64_store_at(j1, frame, 48);
+  j0 = l1;
+  i0 = (u32)(j0);
+  j1 = 0ull;
+  i64_store_at(j1, frame, 56);
+  j0 = l1;
+  i0 = (u32)(j0);
+  j1 = 0ull;
+  i64_store_at(j1, frame, 64);
+  j0 = l1;
+  i0 = (u32)(j0);
+  j1 = 0ull;
+  i64_store_at(j1, frame, 72);
+  j0 = l1;
+  i0 = (u32)(j0);
+  j1 = 0ull;
+  i64_store_at(j1, frame, 80);
+  j0 = l1;
+  i0 = (u32)(j0);
+  j1 = 0ull;
+  i64_store_at(j1, frame, 88);
+  j0 = l1;
+  i0 = (u32)(j0);
+  j1 = 0ull;
+  i64_store_at(j1, frame, 104);
+  j0 = l1;
+  i0 = (u32)(j0);
+  j1 = 0ull;
+  i64_store_at(j1, frame, 112);
+  j0 = l1;
+  i0 = (u32)(j0);
+  j1 = 0ull;
+  i64_store_at(j1, frame, 128);
+  j0 = l1;
+  i0 = (u32)(j0);
+  j1 = 0ull;
+  i64_store_at(j1, frame, 136);
+  j0 = l1;
+  i0 = (u32)(j0);
+  j1 = 0ull;
+  i64_store_at(j1, frame, 144);
+  j0 = l1;
+  i0 = (u32)(j0);
+  j1 = 0ull;
+  i64_store_at(j1, frame, 168);
+  j0 = l1;
+  i0 = (u32)(j0);
+  j1 = 0ull;
+  i64_store_at(j1, frame, 160);
+  j0 = l1;
+  i0 = (u32)(j0);
+  j1 = l1;
+  j2 = 584ull;
+  j1 += j2;
+  i64_store_at(j1, frame, 24);
+  j0 = l1;
+  i0 = (u32)(j0);
+  j1 = l1;
+  j2 = 584ull;
+  j1 += j2;
+  i64_store_at(j1, frame, 96);
+  j0 = l1;
+  i0 = (u32)(j0);
+  j1 = l1;
+  j2 = 584ull;
+  j1 += j2;
+  i64_store_at(j1, frame, 120);
+  j0 = l1;
+  i0 = (u32)(j0);
+  j1 = l1;
+  j2 = 584ull;
+  j1 += j2;
+  i64_store_at(j1, frame, 152);
+  j0 = l1;
+  i0 = (u32)(j0);
+  j1 = 0ull;
+  i64_store_at(j1, frame, 216);
+  j0 = l1;
+  i0 = (u32)(j0);
+  j1 = 0ull;
+  i64_store_at(j1, frame, 208);
+  j0 = l1;
+  i0 = (u32)(j0);
+  j1 = 0ull;
+  i64_store_at(j1, frame, 200);
+  j0 = l1;
+  i0 = (u32)(j0);
+  j1 = 0ull;
+  i64_store_at(j1, frame, 192);
+  j0 = l1;
+  i0 = (u32)(j0);
+  j1 = 0ull;
+  i64_store_at(j1, frame, 184);
+  j0 = l1;
+  i0 = (u32)(j0);
+  j1 = 0ull;
+  i64_store_at(j1, frame, 248);
+  j0 = l1;
+  i0 = (u32)(j0);
+  j1 = 0ull;
+  i64_store_at(j1, frame, 240);
+  j0 = l1;
+  i0 = (u32)(j0);
+  j1 = 0ull;
+  i64_store_at(j1, frame, 232);
+  j0 = l1;
+  i0 = (u32)(j0);
+  j1 = 0ull;
+  i64_store_at(j1, frame, 280);
+  j0 = l1;
+  i0 = (u32)(j0);
+  j1 = 0ull;
+  i64_store_at(j1, frame, 272);
+  j0 = l1;
+  i0 = (u32)(j0);
+  j1 = 0ull;
+  i64_store_at(j1, frame, 264);
+  j0 = l1;
+  i0 = (u32)(j0);
+  j1 = 0ull;
+  i64_store_at(j1, frame, 312);
+  j0 = l1;
+  i0 = (u32)(j0);
+  j1 = 0ull;
+  i64_store_at(j1, frame, 304);
+  j0 = l1;
+  i0 = (u32)(j0);
+  j1 = 0ull;
+  i64_store_at(j1, frame, 296);
+  j0 = l1;
+  i0 = (u32)(j0);
+  j1 = l1;
+  j2 = 584ull;
+  j1 += j2;
+  i64_store_at(j1, frame, 176);
+  j0 = l1;
+  i0 = (u32)(j0);
+  j1 = l1;
+  j2 = 584ull;
+  j1 += j2;
+  i64_store_at(j1, frame, 224);
+  j0 = l1;
+  i0 = (u32)(j0);
+  j1 = l1;
+  j2 = 584ull;
+  j1 += j2;
+  i64_store_at(j1, frame, 256);
+  j0 = l1;
+  i0 = (u32)(j0);
+  j1 = l1;
+  j2 = 584ull;
+  j1 += j2;
+  i64_store_at(j1, frame, 288);
+  j0 = l1;
+  i0 = (u32)(j0);
+  j1 = l1;
+  j2 = 584ull;
+  j1 += j2;
+  i64_store_at(j1, frame, 320);
+  j0 = l1;
+  i0 = (u32)(j0);
+  j1 = 0ull;
+  i64_store_at(j1, frame, 344);
+  j0 = l1;
+  i0 = (u32)(j0);
+  j1 = 0ull;
+  i64_store_at(j1, frame, 336);
+  j0 = l1;
+  i0 = (u32)(j0);
+  j1 = 0ull;
+  i64_store_at(j1, frame, 328);
+  j0 = l1;
+  i0 = (u32)(j0);
+  j1 = l1;
+  j2 = 584ull;
+  j1 += j2;
+  i64_store_at(j1, frame, 352);
+  j0 = l1;
+  i0 = (u32)(j0);
+  j1 = 0ull;
+  i64_store_at(j1, frame, 392);
+  j0 = l1;
+  i0 = (u32)(j0);
+  j1 = 0ull;
+  i64_store_at(j1, frame, 384);
+  j0 = l1;
+  i0 = (u32)(j0);
+  j1 = 0ull;
+  i64_store_at(j1, frame, 376);
+  j0 = l1;
+  i0 = (u32)(j0);
+  j1 = 0ull;
+  i64_store_at(j1, frame, 368);
+  j0 = l1;
+  i0 = (u32)(j0);
+  j1 = 0ull;
+  i64_store_at(j1, frame, 360);
+  j0 = l1;
+  i0 = (u32)(j0);
+  j1 = l1;
+  j2 = 584ull;
+  j1 += j2;
+  i64_store_at(j1, frame, 400);
+  j0 = l1;
+  j1 = 408ull;
+  j0 += j1;
+  i0 = (u32)(j0);
+  i1 = 0u;
+  j2 = 176ull;
+  i2 = (u32)(j2);
+  memory_fill(i0, i1, i2);
+  j0 = l1;
+  j1 = 16ull;
+  j0 += j1;
+  call(code_f4(m, last, j0));
   B0:;
   j0 = l1;
-  j1 = 32ull;
+  j1 = 592ull;
   j0 += j1;
   set_stack(j0);
-  i0 = l4;
+  i0 = l5;
   return i0;
   trap:
   set_broken(m);
@@ -106573,13 +106754,9 @@ static u32 code_pocket_put(uint8_t *const m, const u32 last, u64 p0, u64 p1, u64
   u32 i0, i1, i2, i4, i6;
   u64 j0, j1, j2, j3, j4, j5, j6;
   uint8_t *frame, *a1;
-  enter(l5, 32);
+  enter(l5, 592);
   frame = place(l5);
   j0 = l5;
-  j0 = l5;
-  i0 = (u32)(j0);
-  j1 = 0ull;
-  i64_store_at(j1, frame, 24);
   j0 = l5;
   i0 = (u32)(j0);
   j1 = 0ull;
@@ -106589,8 +106766,10 @@ static u32 code_pocket_put(uint8_t *const m, const u32 last, u64 p0, u64 p1, u64
   j1 = 0ull;
   i64_store_at(j1, frame, 8);
   j0 = l5;
-  j1 = 8ull;
-  j0 += j1;
+  i0 = (u32)(j0);
+  j1 = 0ull;
+  i64_store_at(j1, frame, 0);
+  j0 = l5;
   j1 = p1;
   j2 = 4096ull;
   j3 = 0ull;
@@ -106599,10 +106778,10 @@ static u32 code_pocket_put(uint8_t *const m, const u32 last, u64 p0, u64 p1, u64
   j2 = i4 ? j2 : j3;
   j1 += j2;
   j2 = p2;
-  call(code_f11(m, last, j0, j1, j2));
+  call(code_f10(m, last, j0, j1, j2));
   j0 = l5;
   i0 = (u32)(j0);
-  i32_load8_u_at(i0, frame, 8);
+  i32_load8_u_at(i0, frame, 0);
   i0 = !(i0);
   if (i0) {goto B1;}
   i0 = 15u;
@@ -106638,17 +106817,29 @@ static u32 code_pocket_put(uint8_t *const m, const u32 last, u64 p0, u64 p1, u64
   i0 = (u32)(j0);
   i32_load8_u(i0, i0, 0);
   i1 = 2u;
-  i0 = i0 != i1;
+  i0 = i0 == i1;
   if (i0) {goto B3;}
+  j0 = p0;
+  i0 = (u32)(j0);
+  j1 = 1ull;
+  i64_store_at(j1, a1, 8);
+  j0 = p0;
+  i0 = (u32)(j0);
+  j1 = p1;
+  i64_store_at(j1, a1, 0);
+  i0 = 4u;
+  l6 = i0;
+  goto B0;
+  B3:;
   j0 = p1;
   j1 = 8ull;
   j0 += j1;
   j1 = l5;
   i1 = (u32)(j1);
-  i64_load_at(j1, frame, 16);
+  i64_load_at(j1, frame, 8);
   j2 = l5;
   i2 = (u32)(j2);
-  i64_load_at(j2, frame, 24);
+  i64_load_at(j2, frame, 16);
   j3 = p3;
   j4 = 4096ull;
   j5 = 0ull;
@@ -106657,25 +106848,49 @@ static u32 code_pocket_put(uint8_t *const m, const u32 last, u64 p0, u64 p1, u64
   j4 = i6 ? j4 : j5;
   j3 += j4;
   j4 = p4;
-  call(i0 = code_f14(m, last, j0, j1, j2, j3, j4));
+  call(i0 = code_f13(m, last, j0, j1, j2, j3, j4));
   l6 = i0;
   j0 = p0;
+  i0 = (u32)(j0);
+  i64_load_at(j0, a1, 8);
+  p3 = j0;
+  j0 = p0;
+  i0 = (u32)(j0);
+  j1 = 1ull;
+  i64_store_at(j1, a1, 8);
+  j0 = p0;
+  i0 = (u32)(j0);
+  i64_load_at(j0, a1, 0);
+  p2 = j0;
+  j0 = p0;
+  i0 = (u32)(j0);
   j1 = p1;
-  call(code_f4(m, last, j0, j1));
+  i64_store_at(j1, a1, 0);
   i0 = l6;
   i1 = 255u;
   i0 &= i1;
   l6 = i0;
-  goto B0;
-  B3:;
-  j0 = p0;
-  j1 = p1;
-  call(code_f4(m, last, j0, j1));
-  i0 = 4u;
-  l6 = i0;
+  j0 = p3;
+  i0 = !(j0);
+  if (i0) {goto B0;}
+  j0 = l5;
+  j1 = 24ull;
+  j0 += j1;
+  i0 = (u32)(j0);
+  j1 = p2;
+  i1 = (u32)(j1);
+  j2 = 568ull;
+  i2 = (u32)(j2);
+  memory_copy(i0, i1, i2);
+  j0 = p2;
+  call(heap_dealloc(m, last, j0));
+  j0 = l5;
+  j1 = 24ull;
+  j0 += j1;
+  call(code_f4(m, last, j0));
   B0:;
   j0 = l5;
-  j1 = 32ull;
+  j1 = 592ull;
   j0 += j1;
   set_stack(j0);
   i0 = l6;
@@ -106686,14 +106901,18 @@ static u32 code_pocket_put(uint8_t *const m, const u32 last, u64 p0, u64 p1, u64
 }
 
 static u32 code_pocket_word(uint8_t *const m, const u32 last, u64 p0, u64 p1, u64 p2) {
-  u32 l11 = 0;
+  u32 l11 = 0, l12 = 0;
   u64 l3 = 0, l4 = 0, l5 = 0, l6 = 0, l7 = 0, l8 = 0, l9 = 0, l10 = 0;
   u32 i0, i1, i2, i4;
   u64 j0, j1, j2, j3, j4;
   uint8_t *frame, *a1, *a2, *a3, *a4, *a5;
-  enter(l3, 48);
+  enter(l3, 624);
   frame = place(l3);
   j0 = l3;
+  j0 = l3;
+  i0 = (u32)(j0);
+  j1 = 0ull;
+  i64_store_at(j1, frame, 40);
   j0 = l3;
   i0 = (u32)(j0);
   j1 = 0ull;
@@ -106703,11 +106922,7 @@ static u32 code_pocket_word(uint8_t *const m, const u32 last, u64 p0, u64 p1, u6
   j1 = 0ull;
   i64_store_at(j1, frame, 24);
   j0 = l3;
-  i0 = (u32)(j0);
-  j1 = 0ull;
-  i64_store_at(j1, frame, 16);
-  j0 = l3;
-  j1 = 16ull;
+  j1 = 24ull;
   j0 += j1;
   j1 = p1;
   j2 = 4096ull;
@@ -106717,10 +106932,10 @@ static u32 code_pocket_word(uint8_t *const m, const u32 last, u64 p0, u64 p1, u6
   j2 = i4 ? j2 : j3;
   j1 += j2;
   j2 = p2;
-  call(code_f11(m, last, j0, j1, j2));
+  call(code_f10(m, last, j0, j1, j2));
   j0 = l3;
   i0 = (u32)(j0);
-  i32_load8_u_at(i0, frame, 16);
+  i32_load8_u_at(i0, frame, 24);
   i0 = !(i0);
   if (i0) {goto B1;}
   i0 = 15u;
@@ -106756,46 +106971,78 @@ static u32 code_pocket_word(uint8_t *const m, const u32 last, u64 p0, u64 p1, u6
   i0 = (u32)(j0);
   i32_load8_u(i0, i0, 0);
   i1 = 2u;
-  i0 = i0 != i1;
-  if (i0) {goto B4;}
+  i0 = i0 == i1;
+  if (i0) {goto B3;}
+  j0 = p0;
+  i0 = (u32)(j0);
+  j1 = 1ull;
+  i64_store_at(j1, a1, 8);
+  j0 = p0;
+  i0 = (u32)(j0);
+  j1 = l4;
+  i64_store_at(j1, a1, 0);
+  i0 = 4u;
+  l11 = i0;
+  goto B0;
+  B3:;
   j0 = l4;
   j1 = 392ull;
   j0 += j1;
   i0 = (u32)(j0);
   reach(a2, i0, 0, 0);
   i64_load_at(j0, a2, 0);
-  j1 = 999ull;
-  i0 = j0 > j1;
-  if (i0) {goto B3;}
-  j0 = l3;
+  j1 = 1000ull;
+  i0 = j0 < j1;
+  if (i0) {goto B4;}
+  j0 = p0;
   i0 = (u32)(j0);
-  i64_load_at(j0, frame, 24);
-  l5 = j0;
+  j1 = 1ull;
+  i64_store_at(j1, a1, 8);
+  j0 = p0;
+  i0 = (u32)(j0);
+  j1 = l4;
+  i64_store_at(j1, a1, 0);
+  i0 = 16u;
+  l11 = i0;
+  goto B0;
+  B4:;
   j0 = l3;
   i0 = (u32)(j0);
   i64_load_at(j0, frame, 32);
+  l5 = j0;
+  j0 = l3;
+  i0 = (u32)(j0);
+  i64_load_at(j0, frame, 40);
   l6 = j0;
   i0 = !(j0);
-  l11 = i0;
+  l12 = i0;
   i0 = !(i0);
   if (i0) {goto B7;}
   j0 = l3;
-  j1 = 47ull;
+  j1 = 623ull;
   j0 += j1;
   l7 = j0;
   goto B6;
   B7:;
   j0 = l6;
   j1 = 0ull;
-  i0 = (u64)((s64)j0 < (s64)j1);
-  if (i0) {goto B5;}
+  i0 = (u64)((s64)j0 >= (s64)j1);
+  if (i0) {goto B8;}
+  i0 = 1u;
+  l11 = i0;
+  goto B5;
+  B8:;
   j0 = l3;
+  j1 = 8ull;
+  j0 += j1;
   j1 = l6;
   j2 = 1ull;
   call(heap_alloc(m, last, j0, j1, j2));
+  i0 = 1u;
+  l11 = i0;
   j0 = l3;
   i0 = (u32)(j0);
-  i64_load_at(j0, frame, 0);
+  i64_load_at(j0, frame, 8);
   i0 = (u32)(j0);
   i1 = 1u;
   i0 &= i1;
@@ -106803,7 +107050,7 @@ static u32 code_pocket_word(uint8_t *const m, const u32 last, u64 p0, u64 p1, u6
   if (i0) {goto B5;}
   j0 = l3;
   i0 = (u32)(j0);
-  i64_load_at(j0, frame, 8);
+  i64_load_at(j0, frame, 16);
   l7 = j0;
   B6:;
   j0 = l7;
@@ -106811,7 +107058,7 @@ static u32 code_pocket_word(uint8_t *const m, const u32 last, u64 p0, u64 p1, u6
   j0 -= j1;
   j1 = l6;
   i0 = j0 >= j1;
-  if (i0) {goto B9;}
+  if (i0) {goto B10;}
   j0 = l6;
   j1 = 3ull;
   j0 &= j1;
@@ -106821,14 +107068,14 @@ static u32 code_pocket_word(uint8_t *const m, const u32 last, u64 p0, u64 p1, u6
   j0 = l6;
   j1 = 4ull;
   i0 = j0 < j1;
-  if (i0) {goto B10;}
+  if (i0) {goto B11;}
   j0 = l6;
   j1 = 18446744073709551612ull;
   j0 &= j1;
   l9 = j0;
   j0 = 0ull;
   p2 = j0;
-  L11:
+  L12:
     j0 = l7;
     j1 = p2;
     j0 += j1;
@@ -106879,11 +107126,11 @@ static u32 code_pocket_word(uint8_t *const m, const u32 last, u64 p0, u64 p1, u6
     j1 += j2;
     p2 = j1;
     i0 = j0 != j1;
-    if (i0) {goto L11;}
+    if (i0) {goto L12;}
   j0 = l8;
   i0 = !(j0);
-  if (i0) {goto B8;}
-  B10:;
+  if (i0) {goto B9;}
+  B11:;
   j0 = l7;
   j1 = p2;
   j0 += j1;
@@ -106892,7 +107139,7 @@ static u32 code_pocket_word(uint8_t *const m, const u32 last, u64 p0, u64 p1, u6
   j1 = p2;
   j0 += j1;
   p2 = j0;
-  L12:
+  L13:
     j0 = p1;
     i0 = (u32)(j0);
     j1 = p2;
@@ -106913,12 +107160,12 @@ static u32 code_pocket_word(uint8_t *const m, const u32 last, u64 p0, u64 p1, u6
     l8 = j0;
     j1 = 0ull;
     i0 = j0 != j1;
-    if (i0) {goto L12;}
-    goto B8;
+    if (i0) {goto L13;}
+    goto B9;
   goto trap;
-  B9:;
-  i0 = l11;
-  if (i0) {goto B8;}
+  B10:;
+  i0 = l12;
+  if (i0) {goto B9;}
   j0 = l7;
   i0 = (u32)(j0);
   j1 = l5;
@@ -106926,7 +107173,7 @@ static u32 code_pocket_word(uint8_t *const m, const u32 last, u64 p0, u64 p1, u6
   j2 = l6;
   i2 = (u32)(j2);
   memory_copy(i0, i1, i2);
-  B8:;
+  B9:;
   j0 = l4;
   j1 = 400ull;
   j0 += j1;
@@ -106940,20 +107187,20 @@ static u32 code_pocket_word(uint8_t *const m, const u32 last, u64 p0, u64 p1, u6
   i64_load_at(j1, a2, 0);
   p1 = j1;
   i0 = j0 != j1;
-  if (i0) {goto B14;}
+  if (i0) {goto B15;}
   j0 = l4;
   j1 = 384ull;
   j0 += j1;
-  call(i0 = code_f46(m, last, j0));
+  call(i0 = code_f45(m, last, j0));
   i0 = !(i0);
-  if (i0) {goto B13;}
+  if (i0) {goto B14;}
   j0 = l4;
   j1 = 392ull;
   j0 += j1;
   i0 = (u32)(j0);
   i64_load_at(j0, a2, 0);
   p1 = j0;
-  B14:;
+  B15:;
   j0 = l4;
   j1 = 384ull;
   j0 += j1;
@@ -106982,40 +107229,54 @@ static u32 code_pocket_word(uint8_t *const m, const u32 last, u64 p0, u64 p1, u6
   j2 = 1ull;
   j1 += j2;
   i64_store_at(j1, a2, 0);
-  j0 = p0;
-  j1 = l4;
-  call(code_f4(m, last, j0, j1));
   i0 = 0u;
   l11 = i0;
-  goto B0;
-  B13:;
-  i0 = l11;
+  goto B5;
+  B14:;
+  i0 = 1u;
+  l11 = i0;
+  i0 = l12;
   if (i0) {goto B5;}
   j0 = l7;
   call(heap_dealloc(m, last, j0));
   B5:;
   j0 = p0;
-  j1 = l4;
-  call(code_f4(m, last, j0, j1));
-  i0 = 1u;
-  l11 = i0;
-  goto B0;
-  B4:;
+  i0 = (u32)(j0);
+  i64_load_at(j0, a1, 8);
+  p2 = j0;
   j0 = p0;
-  j1 = l4;
-  call(code_f4(m, last, j0, j1));
-  i0 = 4u;
-  l11 = i0;
-  goto B0;
-  B3:;
+  i0 = (u32)(j0);
+  j1 = 1ull;
+  i64_store_at(j1, a1, 8);
   j0 = p0;
+  i0 = (u32)(j0);
+  i64_load_at(j0, a1, 0);
+  p1 = j0;
+  j0 = p0;
+  i0 = (u32)(j0);
   j1 = l4;
-  call(code_f4(m, last, j0, j1));
-  i0 = 16u;
-  l11 = i0;
-  B0:;
+  i64_store_at(j1, a1, 0);
+  j0 = p2;
+  i0 = !(j0);
+  if (i0) {goto B0;}
   j0 = l3;
   j1 = 48ull;
+  j0 += j1;
+  i0 = (u32)(j0);
+  j1 = p1;
+  i1 = (u32)(j1);
+  j2 = 568ull;
+  i2 = (u32)(j2);
+  memory_copy(i0, i1, i2);
+  j0 = p1;
+  call(heap_dealloc(m, last, j0));
+  j0 = l3;
+  j1 = 48ull;
+  j0 += j1;
+  call(code_f4(m, last, j0));
+  B0:;
+  j0 = l3;
+  j1 = 624ull;
   j0 += j1;
   set_stack(j0);
   i0 = l11;
@@ -107031,13 +107292,9 @@ static u32 code_pocket_get(uint8_t *const m, const u32 last, u64 p0, u64 p1, u64
   u32 i0, i1, i2, i3, i4;
   u64 j0, j1, j2, j3, j4;
   uint8_t *frame, *a1, *a2, *a3, *a4, *a5;
-  enter(l6, 48);
+  enter(l6, 608);
   frame = place(l6);
   j0 = l6;
-  j0 = l6;
-  i0 = (u32)(j0);
-  j1 = 0ull;
-  i64_store_at(j1, frame, 40);
   j0 = l6;
   i0 = (u32)(j0);
   j1 = 0ull;
@@ -107047,7 +107304,11 @@ static u32 code_pocket_get(uint8_t *const m, const u32 last, u64 p0, u64 p1, u64
   j1 = 0ull;
   i64_store_at(j1, frame, 24);
   j0 = l6;
-  j1 = 24ull;
+  i0 = (u32)(j0);
+  j1 = 0ull;
+  i64_store_at(j1, frame, 16);
+  j0 = l6;
+  j1 = 16ull;
   j0 += j1;
   j1 = p1;
   j2 = 4096ull;
@@ -107057,10 +107318,10 @@ static u32 code_pocket_get(uint8_t *const m, const u32 last, u64 p0, u64 p1, u64
   j2 = i4 ? j2 : j3;
   j1 += j2;
   j2 = p2;
-  call(code_f11(m, last, j0, j1, j2));
+  call(code_f10(m, last, j0, j1, j2));
   j0 = l6;
   i0 = (u32)(j0);
-  i32_load8_u_at(i0, frame, 24);
+  i32_load8_u_at(i0, frame, 16);
   i0 = !(i0);
   if (i0) {goto B1;}
   i0 = 15u;
@@ -107096,8 +107357,20 @@ static u32 code_pocket_get(uint8_t *const m, const u32 last, u64 p0, u64 p1, u64
   i0 = (u32)(j0);
   i32_load8_u(i0, i0, 0);
   i1 = 2u;
-  i0 = i0 != i1;
-  if (i0) {goto B6;}
+  i0 = i0 == i1;
+  if (i0) {goto B3;}
+  j0 = p0;
+  i0 = (u32)(j0);
+  j1 = 1ull;
+  i64_store_at(j1, a1, 8);
+  j0 = p0;
+  i0 = (u32)(j0);
+  j1 = l7;
+  i64_store_at(j1, a1, 0);
+  i0 = 4u;
+  l12 = i0;
+  goto B0;
+  B3:;
   j0 = p3;
   j1 = 4096ull;
   j2 = 0ull;
@@ -107108,8 +107381,6 @@ static u32 code_pocket_get(uint8_t *const m, const u32 last, u64 p0, u64 p1, u64
   j0 += j1;
   l9 = j0;
   j0 = l6;
-  j1 = 8ull;
-  j0 += j1;
   j1 = l7;
   j2 = 8ull;
   j1 += j2;
@@ -107124,14 +107395,14 @@ static u32 code_pocket_get(uint8_t *const m, const u32 last, u64 p0, u64 p1, u64
   i64_load_at(j2, a2, 8);
   j3 = l6;
   i3 = (u32)(j3);
-  i64_load_at(j3, frame, 32);
+  i64_load_at(j3, frame, 24);
   j4 = l6;
   i4 = (u32)(j4);
-  i64_load_at(j4, frame, 40);
-  call(code_f35(m, last, j0, j1, j2, j3, j4));
+  i64_load_at(j4, frame, 32);
+  call(code_f34(m, last, j0, j1, j2, j3, j4));
   j0 = l6;
   i0 = (u32)(j0);
-  i32_load8_u_at(i0, frame, 8);
+  i32_load8_u_at(i0, frame, 0);
   i1 = 1u;
   i0 = i0 == i1;
   if (i0) {goto B7;}
@@ -107143,12 +107414,12 @@ static u32 code_pocket_get(uint8_t *const m, const u32 last, u64 p0, u64 p1, u64
   i64_store(j1, i0, 0);
   j0 = 1048576ull;
   l10 = j0;
-  goto B4;
+  goto B6;
   B7:;
   j0 = p1;
   j1 = l6;
   i1 = (u32)(j1);
-  i64_load_at(j1, frame, 16);
+  i64_load_at(j1, frame, 8);
   j2 = 48ull;
   j1 *= j2;
   j0 += j1;
@@ -107170,14 +107441,18 @@ static u32 code_pocket_get(uint8_t *const m, const u32 last, u64 p0, u64 p1, u64
   i64_store(j1, i0, 0);
   j0 = p4;
   j1 = p1;
-  i0 = j0 < j1;
-  if (i0) {goto B5;}
+  i0 = j0 >= j1;
+  if (i0) {goto B8;}
+  i0 = 11u;
+  l12 = i0;
+  goto B4;
+  B8:;
   j0 = l9;
   j1 = l10;
   j0 -= j1;
   j1 = p1;
   i0 = j0 >= j1;
-  if (i0) {goto B4;}
+  if (i0) {goto B6;}
   j0 = p1;
   j1 = 3ull;
   j0 &= j1;
@@ -107187,14 +107462,14 @@ static u32 code_pocket_get(uint8_t *const m, const u32 last, u64 p0, u64 p1, u64
   j0 = p1;
   j1 = 4ull;
   i0 = j0 < j1;
-  if (i0) {goto B8;}
+  if (i0) {goto B9;}
   j0 = p1;
   j1 = 18446744073709551612ull;
   j0 &= j1;
   l11 = j0;
   j0 = 0ull;
   p2 = j0;
-  L9:
+  L10:
     j0 = l9;
     j1 = p2;
     j0 += j1;
@@ -107245,11 +107520,11 @@ static u32 code_pocket_get(uint8_t *const m, const u32 last, u64 p0, u64 p1, u64
     j1 += j2;
     p2 = j1;
     i0 = j0 != j1;
-    if (i0) {goto L9;}
+    if (i0) {goto L10;}
   j0 = p4;
   i0 = !(j0);
-  if (i0) {goto B3;}
-  B8:;
+  if (i0) {goto B5;}
+  B9:;
   j0 = l10;
   j1 = p2;
   j0 += j1;
@@ -107260,7 +107535,7 @@ static u32 code_pocket_get(uint8_t *const m, const u32 last, u64 p0, u64 p1, u64
   j1 += j2;
   j0 += j1;
   p2 = j0;
-  L10:
+  L11:
     j0 = p2;
     i0 = (u32)(j0);
     j1 = p1;
@@ -107281,27 +107556,13 @@ static u32 code_pocket_get(uint8_t *const m, const u32 last, u64 p0, u64 p1, u64
     p4 = j0;
     j1 = 0ull;
     i0 = j0 != j1;
-    if (i0) {goto L10;}
-    goto B3;
+    if (i0) {goto L11;}
+    goto B5;
   goto trap;
   B6:;
-  j0 = p0;
-  j1 = l7;
-  call(code_f4(m, last, j0, j1));
-  i0 = 4u;
-  l12 = i0;
-  goto B0;
-  B5:;
-  j0 = p0;
-  j1 = l7;
-  call(code_f4(m, last, j0, j1));
-  i0 = 11u;
-  l12 = i0;
-  goto B0;
-  B4:;
   j0 = p1;
   i0 = !(j0);
-  if (i0) {goto B3;}
+  if (i0) {goto B5;}
   j0 = l9;
   i0 = (u32)(j0);
   j1 = l10;
@@ -107309,15 +107570,47 @@ static u32 code_pocket_get(uint8_t *const m, const u32 last, u64 p0, u64 p1, u64
   j2 = p1;
   i2 = (u32)(j2);
   memory_copy(i0, i1, i2);
-  B3:;
-  j0 = p0;
-  j1 = l7;
-  call(code_f4(m, last, j0, j1));
+  B5:;
   i0 = 0u;
   l12 = i0;
+  B4:;
+  j0 = p0;
+  i0 = (u32)(j0);
+  i64_load_at(j0, a1, 8);
+  p2 = j0;
+  j0 = p0;
+  i0 = (u32)(j0);
+  j1 = 1ull;
+  i64_store_at(j1, a1, 8);
+  j0 = p0;
+  i0 = (u32)(j0);
+  i64_load_at(j0, a1, 0);
+  p1 = j0;
+  j0 = p0;
+  i0 = (u32)(j0);
+  j1 = l7;
+  i64_store_at(j1, a1, 0);
+  j0 = p2;
+  i0 = !(j0);
+  if (i0) {goto B0;}
+  j0 = l6;
+  j1 = 40ull;
+  j0 += j1;
+  i0 = (u32)(j0);
+  j1 = p1;
+  i1 = (u32)(j1);
+  j2 = 568ull;
+  i2 = (u32)(j2);
+  memory_copy(i0, i1, i2);
+  j0 = p1;
+  call(heap_dealloc(m, last, j0));
+  j0 = l6;
+  j1 = 40ull;
+  j0 += j1;
+  call(code_f4(m, last, j0));
   B0:;
   j0 = l6;
-  j1 = 48ull;
+  j1 = 608ull;
   j0 += j1;
   set_stack(j0);
   i0 = l12;
@@ -108009,7 +108302,7 @@ static u32 code_pocket_run(uint8_t *const m, const u32 last, u64 p0, u64 p1, u64
     i1 = 61u;
     j2 = l9;
     j3 = l16;
-    call(code_f47(m, last, j0, i1, j2, j3));
+    call(code_f46(m, last, j0, i1, j2, j3));
     j0 = l5;
     i0 = (u32)(j0);
     i32_load8_u_at(i0, frame, 7104);
@@ -108027,31 +108320,31 @@ static u32 code_pocket_run(uint8_t *const m, const u32 last, u64 p0, u64 p1, u64
     l19 = j1;
     j2 = 1048576ull;
     j3 = 2ull;
-    call(i0 = code_f49(m, last, j0, j1, j2, j3));
+    call(i0 = code_f48(m, last, j0, j1, j2, j3));
     if (i0) {goto B13;}
     j0 = l9;
     j1 = l19;
     j2 = 1048578ull;
     j3 = 4ull;
-    call(i0 = code_f49(m, last, j0, j1, j2, j3));
+    call(i0 = code_f48(m, last, j0, j1, j2, j3));
     if (i0) {goto B13;}
     j0 = l9;
     j1 = l19;
     j2 = 1048582ull;
     j3 = 6ull;
-    call(i0 = code_f49(m, last, j0, j1, j2, j3));
+    call(i0 = code_f48(m, last, j0, j1, j2, j3));
     if (i0) {goto B13;}
     j0 = l9;
     j1 = l19;
     j2 = 1048588ull;
     j3 = 6ull;
-    call(i0 = code_f49(m, last, j0, j1, j2, j3));
+    call(i0 = code_f48(m, last, j0, j1, j2, j3));
     if (i0) {goto B13;}
     j0 = l9;
     j1 = l19;
     j2 = 1048594ull;
     j3 = 7ull;
-    call(i0 = code_f49(m, last, j0, j1, j2, j3));
+    call(i0 = code_f48(m, last, j0, j1, j2, j3));
     i0 = !(i0);
     if (i0) {goto B12;}
     B13:;
@@ -108066,7 +108359,7 @@ static u32 code_pocket_run(uint8_t *const m, const u32 last, u64 p0, u64 p1, u64
     j4 = l16;
     j5 = l18;
     j4 -= j5;
-    call(code_f35(m, last, j0, j1, j2, j3, j4));
+    call(code_f34(m, last, j0, j1, j2, j3, j4));
     i0 = 1u;
     l43 = i0;
     j0 = l5;
@@ -108436,7 +108729,7 @@ static u32 code_pocket_run(uint8_t *const m, const u32 last, u64 p0, u64 p1, u64
   l9 = j1;
   j2 = 1048601ull;
   j3 = 8ull;
-  call(i0 = code_f49(m, last, j0, j1, j2, j3));
+  call(i0 = code_f48(m, last, j0, j1, j2, j3));
   i0 = !(i0);
   if (i0) {goto B14;}
   j0 = 1048656ull;
@@ -108463,7 +108756,7 @@ static u32 code_pocket_run(uint8_t *const m, const u32 last, u64 p0, u64 p1, u64
   j1 = l9;
   j2 = 1048609ull;
   j3 = 4ull;
-  call(i0 = code_f49(m, last, j0, j1, j2, j3));
+  call(i0 = code_f48(m, last, j0, j1, j2, j3));
   i0 = !(i0);
   if (i0) {goto B15;}
   j0 = 1048968ull;
@@ -108478,7 +108771,7 @@ static u32 code_pocket_run(uint8_t *const m, const u32 last, u64 p0, u64 p1, u64
   j1 = l9;
   j2 = 1048613ull;
   j3 = 7ull;
-  call(i0 = code_f49(m, last, j0, j1, j2, j3));
+  call(i0 = code_f48(m, last, j0, j1, j2, j3));
   i0 = !(i0);
   if (i0) {goto B16;}
   j0 = 1049192ull;
@@ -108495,7 +108788,7 @@ static u32 code_pocket_run(uint8_t *const m, const u32 last, u64 p0, u64 p1, u64
   j1 = l9;
   j2 = 1048620ull;
   j3 = 4ull;
-  call(i0 = code_f49(m, last, j0, j1, j2, j3));
+  call(i0 = code_f48(m, last, j0, j1, j2, j3));
   i0 = !(i0);
   if (i0) {goto B17;}
   j0 = 1049416ull;
@@ -108510,7 +108803,7 @@ static u32 code_pocket_run(uint8_t *const m, const u32 last, u64 p0, u64 p1, u64
   j1 = l9;
   j2 = 1048624ull;
   j3 = 5ull;
-  call(i0 = code_f49(m, last, j0, j1, j2, j3));
+  call(i0 = code_f48(m, last, j0, j1, j2, j3));
   i0 = !(i0);
   if (i0) {goto B18;}
   j0 = 1049592ull;
@@ -108533,7 +108826,7 @@ static u32 code_pocket_run(uint8_t *const m, const u32 last, u64 p0, u64 p1, u64
   j1 = l9;
   j2 = 1048629ull;
   j3 = 5ull;
-  call(i0 = code_f49(m, last, j0, j1, j2, j3));
+  call(i0 = code_f48(m, last, j0, j1, j2, j3));
   i0 = !(i0);
   if (i0) {goto B19;}
   j0 = 1049816ull;
@@ -108548,7 +108841,7 @@ static u32 code_pocket_run(uint8_t *const m, const u32 last, u64 p0, u64 p1, u64
   j1 = l9;
   j2 = 1048634ull;
   j3 = 4ull;
-  call(i0 = code_f49(m, last, j0, j1, j2, j3));
+  call(i0 = code_f48(m, last, j0, j1, j2, j3));
   i0 = !(i0);
   if (i0) {goto B20;}
   j0 = 1050000ull;
@@ -108573,7 +108866,7 @@ static u32 code_pocket_run(uint8_t *const m, const u32 last, u64 p0, u64 p1, u64
   j1 = l9;
   j2 = 1048638ull;
   j3 = 5ull;
-  call(i0 = code_f49(m, last, j0, j1, j2, j3));
+  call(i0 = code_f48(m, last, j0, j1, j2, j3));
   i0 = !(i0);
   if (i0) {goto B21;}
   j0 = 1050272ull;
@@ -108596,7 +108889,7 @@ static u32 code_pocket_run(uint8_t *const m, const u32 last, u64 p0, u64 p1, u64
   j1 = l9;
   j2 = 1048643ull;
   j3 = 8ull;
-  call(i0 = code_f49(m, last, j0, j1, j2, j3));
+  call(i0 = code_f48(m, last, j0, j1, j2, j3));
   if (i0) {goto B22;}
   i0 = 1u;
   l49 = i0;
@@ -108611,8 +108904,13 @@ static u32 code_pocket_run(uint8_t *const m, const u32 last, u64 p0, u64 p1, u64
   goto B7;
   B9:;
   j0 = p0;
+  i0 = (u32)(j0);
+  j1 = 1ull;
+  i64_store_at(j1, a0, 8);
+  j0 = p0;
+  i0 = (u32)(j0);
   j1 = l6;
-  call(code_f4(m, last, j0, j1));
+  i64_store_at(j1, a0, 0);
   i0 = 4u;
   l43 = i0;
   goto B0;
@@ -108701,7 +108999,7 @@ static u32 code_pocket_run(uint8_t *const m, const u32 last, u64 p0, u64 p1, u64
     i1 = 61u;
     j2 = l16;
     j3 = l25;
-    call(code_f47(m, last, j0, i1, j2, j3));
+    call(code_f46(m, last, j0, i1, j2, j3));
     j0 = l5;
     i0 = (u32)(j0);
     i32_load8_u_at(i0, frame, 840);
@@ -111798,7 +112096,7 @@ static u32 code_pocket_run(uint8_t *const m, const u32 last, u64 p0, u64 p1, u64
       i1 = 61u;
       j2 = l9;
       j3 = l18;
-      call(code_f47(m, last, j0, i1, j2, j3));
+      call(code_f46(m, last, j0, i1, j2, j3));
       j0 = l5;
       i0 = (u32)(j0);
       i32_load8_u_at(i0, frame, 840);
@@ -111811,7 +112109,7 @@ static u32 code_pocket_run(uint8_t *const m, const u32 last, u64 p0, u64 p1, u64
       i64_load_at(j1, frame, 848);
       j2 = l16;
       j3 = l15;
-      call(i0 = code_f49(m, last, j0, j1, j2, j3));
+      call(i0 = code_f48(m, last, j0, j1, j2, j3));
       if (i0) {goto B25;}
       B62:;
       j0 = p2;
@@ -111840,7 +112138,7 @@ static u32 code_pocket_run(uint8_t *const m, const u32 last, u64 p0, u64 p1, u64
     j8 = l26;
     j7 -= j8;
     l9 = j7;
-    call(i0 = code_f50(m, last, j0, j1, j2, j3, i4, i5, j6, j7));
+    call(i0 = code_f49(m, last, j0, j1, j2, j3, i4, i5, j6, j7));
     l47 = i0;
     j0 = l20;
     j1 = l22;
@@ -111850,7 +112148,7 @@ static u32 code_pocket_run(uint8_t *const m, const u32 last, u64 p0, u64 p1, u64
     i5 = 3u;
     j6 = p2;
     j7 = l9;
-    call(i0 = code_f50(m, last, j0, j1, j2, j3, i4, i5, j6, j7));
+    call(i0 = code_f49(m, last, j0, j1, j2, j3, i4, i5, j6, j7));
     l48 = i0;
     i0 = l43;
     switch (i0) {
@@ -111875,7 +112173,7 @@ static u32 code_pocket_run(uint8_t *const m, const u32 last, u64 p0, u64 p1, u64
     j1 = l9;
     j2 = 1050728ull;
     j3 = 1ull;
-    call(i0 = code_f49(m, last, j0, j1, j2, j3));
+    call(i0 = code_f48(m, last, j0, j1, j2, j3));
     if (i0) {goto B63;}
     i0 = l48;
     i1 = 1u;
@@ -111894,7 +112192,7 @@ static u32 code_pocket_run(uint8_t *const m, const u32 last, u64 p0, u64 p1, u64
     j1 = l9;
     j2 = 1050728ull;
     j3 = 1ull;
-    call(i0 = code_f49(m, last, j0, j1, j2, j3));
+    call(i0 = code_f48(m, last, j0, j1, j2, j3));
     if (i0) {goto B63;}
     i0 = l47;
     i1 = 1u;
@@ -111910,7 +112208,7 @@ static u32 code_pocket_run(uint8_t *const m, const u32 last, u64 p0, u64 p1, u64
     j2 = l9;
     j3 = l10;
     j4 = l19;
-    call(code_f52(m, last, j0, j1, j2, j3, j4));
+    call(code_f51(m, last, j0, j1, j2, j3, j4));
     j0 = l5;
     i0 = (u32)(j0);
     i32_load8_u_at(i0, frame, 16);
@@ -112262,7 +112560,7 @@ static u32 code_pocket_run(uint8_t *const m, const u32 last, u64 p0, u64 p1, u64
         j3 = 32ull;
         j2 += j3;
         j3 = l17;
-        call(j1 = code_f48(m, last, j1, j2, j3));
+        call(j1 = code_f47(m, last, j1, j2, j3));
         p2 = j1;
         j0 -= j1;
         j1 = 31ull;
@@ -114483,7 +114781,7 @@ static u32 code_pocket_run(uint8_t *const m, const u32 last, u64 p0, u64 p1, u64
     i1 = 61u;
     j2 = l9;
     j3 = l16;
-    call(code_f47(m, last, j0, i1, j2, j3));
+    call(code_f46(m, last, j0, i1, j2, j3));
     j0 = l5;
     i0 = (u32)(j0);
     i32_load8_u_at(i0, frame, 7136);
@@ -114500,7 +114798,7 @@ static u32 code_pocket_run(uint8_t *const m, const u32 last, u64 p0, u64 p1, u64
     i64_load_at(j1, frame, 7144);
     j2 = 1050729ull;
     j3 = 4ull;
-    call(i0 = code_f49(m, last, j0, j1, j2, j3));
+    call(i0 = code_f48(m, last, j0, j1, j2, j3));
     if (i0) {goto B27;}
     B86:;
     j0 = p2;
@@ -114537,14 +114835,14 @@ static u32 code_pocket_run(uint8_t *const m, const u32 last, u64 p0, u64 p1, u64
   j2 = l27;
   j3 = 1050733ull;
   j4 = 4ull;
-  call(i1 = code_f53(m, last, j1, j2, j3, j4));
+  call(i1 = code_f52(m, last, j1, j2, j3, j4));
   j2 = l9;
   j3 = l18;
   j2 += j3;
   j3 = l16;
   j4 = l18;
   j3 -= j4;
-  call(code_f54(m, last, j0, i1, j2, j3));
+  call(code_f53(m, last, j0, i1, j2, j3));
   j0 = l5;
   i0 = (u32)(j0);
   i32_load8_u_at(i0, frame, 840);
@@ -114613,7 +114911,7 @@ static u32 code_pocket_run(uint8_t *const m, const u32 last, u64 p0, u64 p1, u64
   j1 = l5;
   j2 = 816ull;
   j1 += j2;
-  call(code_f55(m, last, j0, j1));
+  call(code_f54(m, last, j0, j1));
   j0 = l5;
   i0 = (u32)(j0);
   j1 = l5;
@@ -114642,7 +114940,7 @@ static u32 code_pocket_run(uint8_t *const m, const u32 last, u64 p0, u64 p1, u64
   j3 = l5;
   j4 = 6992ull;
   j3 += j4;
-  call(code_f56(m, last, j0, j1, i2, j3));
+  call(code_f55(m, last, j0, j1, i2, j3));
   j0 = l5;
   i0 = (u32)(j0);
   i32_load8_u_at(i0, frame, 7104);
@@ -114679,7 +114977,7 @@ static u32 code_pocket_run(uint8_t *const m, const u32 last, u64 p0, u64 p1, u64
   j3 = l5;
   j4 = 368ull;
   j3 += j4;
-  call(code_f60(m, last, j0, j1, j2, j3));
+  call(code_f59(m, last, j0, j1, j2, j3));
   j0 = l5;
   i0 = (u32)(j0);
   i32_load8_u_at(i0, frame, 840);
@@ -114704,7 +115002,7 @@ static u32 code_pocket_run(uint8_t *const m, const u32 last, u64 p0, u64 p1, u64
   j1 = l5;
   j2 = 816ull;
   j1 += j2;
-  call(code_f55(m, last, j0, j1));
+  call(code_f54(m, last, j0, j1));
   i0 = l50;
   i0 = !(i0);
   if (i0) {goto B94;}
@@ -114785,7 +115083,7 @@ static u32 code_pocket_run(uint8_t *const m, const u32 last, u64 p0, u64 p1, u64
   i0 = j0 != j1;
   if (i0) {goto B93;}
   j0 = l30;
-  call(i0 = code_f57(m, last, j0));
+  call(i0 = code_f56(m, last, j0));
   i0 = !(i0);
   if (i0) {goto B97;}
   j0 = 18446744073709551615ull;
@@ -114810,7 +115108,7 @@ static u32 code_pocket_run(uint8_t *const m, const u32 last, u64 p0, u64 p1, u64
   i64_load_at(j2, frame, 376);
   j3 = l8;
   j4 = l15;
-  call(code_f35(m, last, j0, j1, j2, j3, j4));
+  call(code_f34(m, last, j0, j1, j2, j3, j4));
   j0 = l5;
   i0 = (u32)(j0);
   i32_load8_u_at(i0, frame, 0);
@@ -114834,7 +115132,7 @@ static u32 code_pocket_run(uint8_t *const m, const u32 last, u64 p0, u64 p1, u64
   j1 = l17;
   i64_store_at(j1, frame, 720);
   j0 = l16;
-  call(code_f140(m, last, j0));
+  call(code_f139(m, last, j0));
   i0 = 0u;
   l47 = i0;
   j0 = 0ull;
@@ -114866,7 +115164,7 @@ static u32 code_pocket_run(uint8_t *const m, const u32 last, u64 p0, u64 p1, u64
   i1 = 0u;
   j2 = l18;
   j3 = l17;
-  call(i0 = code_f127(m, last, j0, i1, j2, j3));
+  call(i0 = code_f126(m, last, j0, i1, j2, j3));
   i1 = 255u;
   i0 &= i1;
   if (i0) {goto B98;}
@@ -114882,7 +115180,7 @@ static u32 code_pocket_run(uint8_t *const m, const u32 last, u64 p0, u64 p1, u64
   i1 = 1u;
   j2 = l10;
   j3 = l19;
-  call(i0 = code_f127(m, last, j0, i1, j2, j3));
+  call(i0 = code_f126(m, last, j0, i1, j2, j3));
   i1 = 255u;
   i0 &= i1;
   if (i0) {goto B98;}
@@ -114912,7 +115210,7 @@ static u32 code_pocket_run(uint8_t *const m, const u32 last, u64 p0, u64 p1, u64
   j2 = l5;
   j3 = 368ull;
   j2 += j3;
-  call(code_f129(m, last, j0, j1, j2));
+  call(code_f128(m, last, j0, j1, j2));
   j0 = l5;
   i0 = (u32)(j0);
   i32_load8_u_at(i0, frame, 768);
@@ -114942,7 +115240,7 @@ static u32 code_pocket_run(uint8_t *const m, const u32 last, u64 p0, u64 p1, u64
   j1 = 688ull;
   j0 += j1;
   l17 = j0;
-  call(i0 = code_f57(m, last, j0));
+  call(i0 = code_f56(m, last, j0));
   i0 = !(i0);
   if (i0) {goto B101;}
   j0 = l5;
@@ -114975,7 +115273,7 @@ static u32 code_pocket_run(uint8_t *const m, const u32 last, u64 p0, u64 p1, u64
   j4 = l5;
   i4 = (u32)(j4);
   i64_load_at(j4, frame, 472);
-  call(i0 = code_f14(m, last, j0, j1, j2, j3, j4));
+  call(i0 = code_f13(m, last, j0, j1, j2, j3, j4));
   i1 = 255u;
   i0 &= i1;
   i0 = !(i0);
@@ -115021,7 +115319,7 @@ static u32 code_pocket_run(uint8_t *const m, const u32 last, u64 p0, u64 p1, u64
   goto B88;
   B103:;
   j0 = l17;
-  call(i0 = code_f57(m, last, j0));
+  call(i0 = code_f56(m, last, j0));
   i0 = !(i0);
   if (i0) {goto B105;}
   j0 = l5;
@@ -115056,7 +115354,7 @@ static u32 code_pocket_run(uint8_t *const m, const u32 last, u64 p0, u64 p1, u64
   j4 = l5;
   i4 = (u32)(j4);
   i64_load_at(j4, frame, 528);
-  call(i0 = code_f14(m, last, j0, j1, j2, j3, j4));
+  call(i0 = code_f13(m, last, j0, j1, j2, j3, j4));
   i1 = 255u;
   i0 &= i1;
   i0 = !(i0);
@@ -115095,7 +115393,7 @@ static u32 code_pocket_run(uint8_t *const m, const u32 last, u64 p0, u64 p1, u64
   j0 = l5;
   j1 = 7136ull;
   j0 += j1;
-  call(code_f140(m, last, j0));
+  call(code_f139(m, last, j0));
   goto B90;
   B92:;
   j0 = l5;
@@ -115515,34 +115813,63 @@ static u32 code_pocket_run(uint8_t *const m, const u32 last, u64 p0, u64 p1, u64
   i64_store_at(j1, a3, 120);
   B122:;
   j0 = p0;
+  i0 = (u32)(j0);
+  i64_load_at(j0, a0, 8);
+  l9 = j0;
+  j0 = p0;
+  i0 = (u32)(j0);
+  j1 = 1ull;
+  i64_store_at(j1, a0, 8);
+  j0 = p0;
+  i0 = (u32)(j0);
+  i64_load_at(j0, a0, 0);
+  p2 = j0;
+  j0 = p0;
+  i0 = (u32)(j0);
   j1 = l16;
-  call(code_f4(m, last, j0, j1));
+  i64_store_at(j1, a0, 0);
+  j0 = l9;
+  i0 = !(j0);
+  if (i0) {goto B125;}
+  j0 = l5;
+  j1 = 840ull;
+  j0 += j1;
+  i0 = (u32)(j0);
+  j1 = p2;
+  i1 = (u32)(j1);
+  j2 = 568ull;
+  i2 = (u32)(j2);
+  memory_copy(i0, i1, i2);
+  j0 = p2;
+  call(heap_dealloc(m, last, j0));
+  j0 = l5;
+  j1 = 840ull;
+  j0 += j1;
+  call(code_f4(m, last, j0));
+  B125:;
   i0 = l49;
   i0 = !(i0);
-  if (i0) {goto B127;}
-  i0 = l43;
-  j0 = (u64)(i0);
-  p2 = j0;
+  if (i0) {goto B128;}
   i0 = l46;
   j0 = (u64)(i0);
   j1 = 255ull;
   j0 &= j1;
   i0 = (u32)(j0);
   switch (i0) {
-    case 1: goto B139;
-    case 2: goto B138;
-    case 3: goto B137;
-    case 4: goto B136;
-    case 5: goto B135;
-    case 6: goto B134;
-    case 7: goto B133;
-    case 8: goto B132;
-    case 9: goto B131;
-    case 10: goto B130;
-    case 11: goto B129;
-    default: goto B140;
+    case 1: goto B140;
+    case 2: goto B139;
+    case 3: goto B138;
+    case 4: goto B137;
+    case 5: goto B136;
+    case 6: goto B135;
+    case 7: goto B134;
+    case 8: goto B133;
+    case 9: goto B132;
+    case 10: goto B131;
+    case 11: goto B130;
+    default: goto B141;
   }
-  B140:;
+  B141:;
   j0 = l5;
   j1 = 840ull;
   j0 += j1;
@@ -115573,8 +115900,9 @@ static u32 code_pocket_run(uint8_t *const m, const u32 last, u64 p0, u64 p1, u64
   j0 = l5;
   j1 = 840ull;
   j0 += j1;
-  j1 = p2;
-  call(code_f67(m, last, j0, j1));
+  i1 = l43;
+  j1 = (u64)(i1);
+  call(code_f66(m, last, j0, j1));
   j0 = l5;
   j1 = 840ull;
   j0 += j1;
@@ -115611,8 +115939,8 @@ static u32 code_pocket_run(uint8_t *const m, const u32 last, u64 p0, u64 p1, u64
   j1 = 9ull;
   j0 += j1;
   p2 = j0;
-  goto B128;
-  B139:;
+  goto B129;
+  B140:;
   j0 = 22ull;
   p2 = j0;
   j0 = l5;
@@ -115644,8 +115972,8 @@ static u32 code_pocket_run(uint8_t *const m, const u32 last, u64 p0, u64 p1, u64
   i1 = (u32)(j1);
   i64_load_at(j1, a37, 0);
   i64_store_at(j1, frame, 368);
-  goto B128;
-  B138:;
+  goto B129;
+  B139:;
   j0 = l5;
   j1 = 840ull;
   j0 += j1;
@@ -115676,8 +116004,9 @@ static u32 code_pocket_run(uint8_t *const m, const u32 last, u64 p0, u64 p1, u64
   j0 = l5;
   j1 = 840ull;
   j0 += j1;
-  j1 = p2;
-  call(code_f67(m, last, j0, j1));
+  i1 = l43;
+  j1 = (u64)(i1);
+  call(code_f66(m, last, j0, j1));
   j0 = l5;
   j1 = 840ull;
   j0 += j1;
@@ -115714,8 +116043,8 @@ static u32 code_pocket_run(uint8_t *const m, const u32 last, u64 p0, u64 p1, u64
   j1 = 9ull;
   j0 += j1;
   p2 = j0;
-  goto B128;
-  B137:;
+  goto B129;
+  B138:;
   j0 = 18ull;
   p2 = j0;
   j0 = l5;
@@ -115747,8 +116076,8 @@ static u32 code_pocket_run(uint8_t *const m, const u32 last, u64 p0, u64 p1, u64
   i1 = (u32)(j1);
   i64_load_at(j1, a40, 0);
   i64_store_at(j1, frame, 368);
-  goto B128;
-  B136:;
+  goto B129;
+  B137:;
   j0 = l5;
   j1 = 840ull;
   j0 += j1;
@@ -115779,8 +116108,9 @@ static u32 code_pocket_run(uint8_t *const m, const u32 last, u64 p0, u64 p1, u64
   j0 = l5;
   j1 = 840ull;
   j0 += j1;
-  j1 = p2;
-  call(code_f67(m, last, j0, j1));
+  i1 = l43;
+  j1 = (u64)(i1);
+  call(code_f66(m, last, j0, j1));
   j0 = l5;
   j1 = 840ull;
   j0 += j1;
@@ -115817,8 +116147,8 @@ static u32 code_pocket_run(uint8_t *const m, const u32 last, u64 p0, u64 p1, u64
   j1 = 9ull;
   j0 += j1;
   p2 = j0;
-  goto B128;
-  B135:;
+  goto B129;
+  B136:;
   j0 = 14ull;
   p2 = j0;
   j0 = l5;
@@ -115844,8 +116174,8 @@ static u32 code_pocket_run(uint8_t *const m, const u32 last, u64 p0, u64 p1, u64
   i1 = (u32)(j1);
   i64_load_at(j1, a43, 0);
   i64_store_at(j1, frame, 368);
-  goto B128;
-  B134:;
+  goto B129;
+  B135:;
   j0 = 14ull;
   p2 = j0;
   j0 = l5;
@@ -115871,8 +116201,8 @@ static u32 code_pocket_run(uint8_t *const m, const u32 last, u64 p0, u64 p1, u64
   i1 = (u32)(j1);
   i64_load_at(j1, a44, 0);
   i64_store_at(j1, frame, 368);
-  goto B128;
-  B133:;
+  goto B129;
+  B134:;
   j0 = l5;
   j1 = 840ull;
   j0 += j1;
@@ -115915,8 +116245,9 @@ static u32 code_pocket_run(uint8_t *const m, const u32 last, u64 p0, u64 p1, u64
   j0 = l5;
   j1 = 840ull;
   j0 += j1;
-  j1 = p2;
-  call(code_f67(m, last, j0, j1));
+  i1 = l43;
+  j1 = (u64)(i1);
+  call(code_f66(m, last, j0, j1));
   j0 = l5;
   i0 = (u32)(j0);
   i64_load_at(j0, frame, 968);
@@ -115932,8 +116263,8 @@ static u32 code_pocket_run(uint8_t *const m, const u32 last, u64 p0, u64 p1, u64
   j2 = 128ull;
   i2 = (u32)(j2);
   memory_copy(i0, i1, i2);
-  goto B128;
-  B132:;
+  goto B129;
+  B133:;
   j0 = l5;
   j1 = 840ull;
   j0 += j1;
@@ -115964,8 +116295,9 @@ static u32 code_pocket_run(uint8_t *const m, const u32 last, u64 p0, u64 p1, u64
   j0 = l5;
   j1 = 840ull;
   j0 += j1;
-  j1 = p2;
-  call(code_f67(m, last, j0, j1));
+  i1 = l43;
+  j1 = (u64)(i1);
+  call(code_f66(m, last, j0, j1));
   j0 = l5;
   j1 = 840ull;
   j0 += j1;
@@ -116008,8 +116340,8 @@ static u32 code_pocket_run(uint8_t *const m, const u32 last, u64 p0, u64 p1, u64
   j1 = 20ull;
   j0 += j1;
   p2 = j0;
-  goto B128;
-  B131:;
+  goto B129;
+  B132:;
   j0 = l5;
   j1 = 840ull;
   j0 += j1;
@@ -116047,7 +116379,7 @@ static u32 code_pocket_run(uint8_t *const m, const u32 last, u64 p0, u64 p1, u64
   j1 = 840ull;
   j0 += j1;
   j1 = l7;
-  call(code_f67(m, last, j0, j1));
+  call(code_f66(m, last, j0, j1));
   j0 = l5;
   j1 = 840ull;
   j0 += j1;
@@ -116071,7 +116403,7 @@ static u32 code_pocket_run(uint8_t *const m, const u32 last, u64 p0, u64 p1, u64
   i64_load(j0, i0, 1052120);
   l9 = j0;
   i0 = !(j0);
-  if (i0) {goto B141;}
+  if (i0) {goto B142;}
   j0 = l5;
   j1 = 840ull;
   j0 += j1;
@@ -116085,7 +116417,7 @@ static u32 code_pocket_run(uint8_t *const m, const u32 last, u64 p0, u64 p1, u64
   j2 = l9;
   i2 = (u32)(j2);
   memory_copy(i0, i1, i2);
-  B141:;
+  B142:;
   j0 = l5;
   j1 = 368ull;
   j0 += j1;
@@ -116101,8 +116433,8 @@ static u32 code_pocket_run(uint8_t *const m, const u32 last, u64 p0, u64 p1, u64
   j1 = p2;
   j0 += j1;
   p2 = j0;
-  goto B128;
-  B130:;
+  goto B129;
+  B131:;
   j0 = 16ull;
   p2 = j0;
   j0 = l5;
@@ -116128,8 +116460,8 @@ static u32 code_pocket_run(uint8_t *const m, const u32 last, u64 p0, u64 p1, u64
   i1 = (u32)(j1);
   i64_load_at(j1, a49, 0);
   i64_store_at(j1, frame, 368);
-  goto B128;
-  B129:;
+  goto B129;
+  B130:;
   j0 = 13ull;
   p2 = j0;
   j0 = l5;
@@ -116155,7 +116487,7 @@ static u32 code_pocket_run(uint8_t *const m, const u32 last, u64 p0, u64 p1, u64
   i1 = (u32)(j1);
   i64_load_at(j1, a50, 0);
   i64_store_at(j1, frame, 368);
-  B128:;
+  B129:;
   j0 = l5;
   j1 = 7136ull;
   j0 += j1;
@@ -116173,7 +116505,7 @@ static u32 code_pocket_run(uint8_t *const m, const u32 last, u64 p0, u64 p1, u64
   i64_store_at(j1, frame, 7264);
   j0 = p2;
   i0 = !(j0);
-  if (i0) {goto B142;}
+  if (i0) {goto B143;}
   j0 = p1;
   j1 = 4096ull;
   j2 = 0ull;
@@ -116189,13 +116521,13 @@ static u32 code_pocket_run(uint8_t *const m, const u32 last, u64 p0, u64 p1, u64
   j2 = p2;
   i2 = (u32)(j2);
   memory_copy(i0, i1, i2);
-  B142:;
+  B143:;
   j0 = p3;
   i0 = (u32)(j0);
   j1 = p2;
   i64_store(j1, i0, 0);
-  goto B126;
-  B127:;
+  goto B127;
+  B128:;
   j0 = p3;
   i0 = (u32)(j0);
   j1 = 0ull;
@@ -116203,8 +116535,8 @@ static u32 code_pocket_run(uint8_t *const m, const u32 last, u64 p0, u64 p1, u64
   i0 = 0u;
   l43 = i0;
   i0 = l45;
-  if (i0) {goto B125;}
-  B126:;
+  if (i0) {goto B126;}
+  B127:;
   i0 = l46;
   j0 = (u64)(i0);
   j1 = 255ull;
@@ -116212,7 +116544,7 @@ static u32 code_pocket_run(uint8_t *const m, const u32 last, u64 p0, u64 p1, u64
   i0 = (u32)(j0);
   i32_load8_u(i0, i0, 1052168);
   l43 = i0;
-  B125:;
+  B126:;
   j0 = p4;
   i0 = (u32)(j0);
   i1 = l43;
@@ -116767,10 +117099,11 @@ static struct answer ran(char **words, unsigned count) {
         while (bytes < 4 * (u64)inputs[at].length)
             bytes *= 2;
     for (; bytes <= MOST_MEMORY; bytes *= 2) {
-        u8 *const memory = bytes + HEAD_BYTES > SIZE_MAX ? NULL : calloc(1, (size_t)bytes + HEAD_BYTES), *const m = memory + HEAD_BYTES;
+        u8 *const memory = bytes + HEAD_BYTES > SIZE_MAX ? NULL : calloc(1, (size_t)bytes + HEAD_BYTES), *m;
         const u32 last = (u32)bytes - SLACK;
         if (memory == NULL)
             break;
+        m = memory + HEAD_BYTES;
         memset(free_places, 0, sizeof free_places);
         memcpy(place(STACK_TOP), constants, CONSTANT_BYTES);
         set_head(m, STACK_AT, STACK_TOP);

@@ -242,7 +242,7 @@ typedef char joined_accesses_fit[STACK_BYTES > 256 ? 1 : -1];
 #define div_u(to, x, y) do { if ((y) == 0) goto trap; to = (x) / (y); } while (0)
 #define rem_u(to, x, y) do { if ((y) == 0) goto trap; to = (x) % (y); } while (0)
 
-/* Whether so many bytes from an address on lie in the block; no byte lies anywhere. */
+/* Whether so many bytes from an address on lie in the block; no byte lies at each of its addresses, and at its end. */
 static POCKET_MAYBE_UNUSED bool lie_in(u32 last, u32 address, u32 count) {
     const u32 offset = address - BASE;
     return offset <= last + SLACK && count <= last + SLACK - offset;
@@ -374,7 +374,7 @@ static bool copied(u8 *m, u32 last, u32 to, u32 from, u32 count) {
     return true;
 }
 
-static bool equal(const u8 *one, const u8 *other, u32 count) {
+static POCKET_MAYBE_UNUSED bool equal(const u8 *one, const u8 *other, u32 count) {
     while (count > 0 && *one++ == *other++)
         count--;
     return count == 0;
@@ -23934,7 +23934,7 @@ pocket_status pocket_checked_save(pocket_handle *handle, uint8_t *state, size_t 
 {
     if (handle == NULL || length == NULL || POCKET_BYTES_ARE_NULL(state, room))
         return POCKET_NULL;
-    return (pocket_status)pocket_save(handle, state, room, length);
+    return (pocket_status)pocket_save(handle, state == NULL ? &no_room : state, room, length);
 }
 
 pocket_status pocket_checked_load(pocket_handle *handle, const uint8_t *state, size_t length)

@@ -100,7 +100,8 @@ typedef enum pocket_status {
     POCKET_OTHER_STATE = 253,   /* the state is of the other kind, or of another number of bits */
     POCKET_BROKEN = 254,        /* of the one file: the memory of the handle was damaged, as an access outside it or its head tells; it can
                                    then only be closed */
-    POCKET_NULL = 255           /* a pointer is null; null with the length 0 is no byte */
+    POCKET_NULL = 255           /* a pointer is null; null with the length 0 is no byte, but for the text of pocket_run and the memory of
+                                   pocket_sender_open_in and pocket_receiver_open_in, which are never null */
 } pocket_status;
 
 /* A sender, a receiver or a desk, or nothing if all is zero: pocket_handle s = POCKET_NOTHING. */
@@ -203,8 +204,9 @@ pocket_status pocket_checked_save(pocket_handle *handle, uint8_t *state, size_t 
 
 /* Puts a state in place of what an open handle of its kind and bits holds, which then goes on as the saved one would have. Each state that is
  * taken is within the bounds of a sender or a receiver; the sum at its end finds damage, and doesn't tell who wrote it. Takes no memory.
- * A sender that goes on from a state older than its last packet would contradict what it sent: leave out 16 sequence counts (by pocket_sent
- * and a header of one's own), and ask for the mask and the whole content in the next packet.
+ * A sender that goes on from a state older than its last packet would contradict what it sent. So 16 counts are left out after the last packet
+ * that may have been sent, not after the state: if it is saved every P packets, with the number next that the next header then has, go on
+ * from it by next += P + 16, and ask for the mask and the whole content in the next packets, one more than may be lost.
  * POCKET_IS_CLOSED, OTHER_KIND of a desk, NO_STATE, OTHER_STATE: one that is so. */
 pocket_status pocket_checked_load(pocket_handle *handle, const uint8_t *state, size_t length);
 
